@@ -1,0 +1,61 @@
+-- The desk program: what it prints for the whole of its input.
+use Prim.Native.Nat.{ℕ, suc}
+use mathlib.Core.Bool.{Bool, true, false, _&&_}
+use mathlib.Core.List.{List, [], _∷_, _++_}
+use lib.ListN.{length, take, drop}
+use lib.Dec.{ltb, eqb}
+use Rattle.meaning.specs.Text.{text, begins, joined}
+use Rattle.meaning.specs.Refusal.{Answer, taken, refused, LONG}
+use Rattle.meaning.specs.Limits.{deskBytes}
+use Rattle.meaning.specs.Number.{decimal}
+use Rattle.meaning.specs.Sheet.{Status}
+use Rattle.meaning.specs.Write.{line}
+use Rattle.meaning.specs.Doors.{Case, readCase, next, outlook}
+
+-- the length of the first line with its LF
+unfoldable pub lineLength : List ℕ → ℕ
+lineLength [] = 0
+lineLength (x ∷ s) = elim (eqb x 10) [ true ↦ 1 | false ↦ suc (lineLength s) ]
+
+-- "up to and with the first line that begins `end=`. .. Where such a line is missing, that paper takes all that is left"; `starts`: a line starts here
+unfoldable pub paperLength : Bool → List ℕ → ℕ
+paperLength starts [] = 0
+paperLength starts (x ∷ s) =
+    elim (starts && begins (text "end=") (x ∷ s)) [ true ↦ lineLength (x ∷ s) | false ↦ suc (paperLength (eqb x 10) s) ]
+
+-- the first paper of the input
+unfoldable pub firstPaper : List ℕ → List ℕ
+firstPaper s = take (paperLength true s) s
+
+-- what is behind it
+unfoldable pub afterPaper : List ℕ → List ℕ
+afterPaper s = drop (paperLength true s) s
+
+-- "`refused=NUMBER PAPER LINE`"
+unfoldable pub refusalText : ℕ → ℕ → ℕ → List ℕ
+refusalText n p l = line (text "refused") (decimal n ++ text " " ++ decimal p ++ text " " ++ decimal l)
+
+-- "a line `start=NAME` for each task"
+unfoldable pub startLines : List Status → List Bool → List ℕ
+startLines [] bs = []
+startLines (s ∷ ss) [] = []
+startLines (s ∷ ss) (true ∷ bs) = line (text "start") (s .name) ++ startLines ss bs
+startLines (s ∷ ss) (false ∷ bs) = startLines ss bs
+
+-- "a line `outlook=PATTERN` for each pattern, or `outlook=refused` if MANY"
+unfoldable pub outlookLines : Answer (List ℕ) → List ℕ
+outlookLines (taken ps) = joined (λ p. line (text "outlook") (decimal p)) ps
+outlookLines (refused n p l) = line (text "outlook") (text "refused")
+
+-- "It prints `refused=NUMBER PAPER LINE`, or the next card, a line `start=NAME` for each task, and" the outlook
+unfoldable pub printed : Answer Case → List ℕ
+printed (refused n p l) = refusalText n p l
+printed (taken c) = next c .card ++ startLines (c .sheet .stages) (next c .tasks) ++ outlookLines (outlook c)
+
+-- "It reads the sheet .., the card .., and takes the rest as the event. .. Over 34,304 bytes: LONG, paper 0, line 0"
+unfoldable pub deskOutput : List ℕ → List ℕ
+deskOutput input =
+    elim (ltb deskBytes (length input)) [
+      | true ↦ refusalText LONG 0 0
+      | false ↦ let rest = afterPaper input in printed (readCase (firstPaper input) (firstPaper rest) (afterPaper rest))
+    ]

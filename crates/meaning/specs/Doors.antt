@@ -1,0 +1,115 @@
+-- The two requests over the same three papers: what each returns, and what the lent space then holds.
+use Prim.Native.Nat.{ℕ}
+use mathlib.Core.Bool.{Bool, true, false, cond}
+use mathlib.Core.List.{List, _++_}
+use mathlib.Core.Option.{Option, none, some}
+use lib.ListN.{length, drop}
+use lib.Dec.{leb}
+use Rattle.meaning.specs.Refusal.{Answer, taken, refused, onTaken, _>>=_, CYCLE, ROOM, MANY}
+use Rattle.meaning.specs.Limits.{sheetBytes}
+use Rattle.meaning.specs.Reading.{paper}
+use Rattle.meaning.specs.Sheet.{Sheet}
+use Rattle.meaning.specs.ReadSheet.{sheet}
+use Rattle.meaning.specs.Card.{Card, readCard, Happening, readEvent}
+use Rattle.meaning.specs.Dependency.{testingOrder}
+use Rattle.meaning.specs.Step.{moment, putIn, leadsTo, started, pattern}
+use Rattle.meaning.specs.Outlook.{many, patterns}
+use Rattle.meaning.specs.Write.{cardText}
+
+-- a sheet that is accepted, with its testing order
+pub record Accepted : Type 0 where
+  pub sheet : Sheet
+  pub order : List ℕ
+
+-- "A sheet is accepted only if no path leads from a node to itself"
+abbrev pub accepted : Sheet → Option (List ℕ) → Answer Accepted
+accepted sh none = refused CYCLE 1 0
+accepted sh (some o) = taken (record { sheet = sh; order = o })
+
+-- the sheet as a paper: "LONG, then the first line at fault, then CYCLE"
+unfoldable pub readSheet : List ℕ → Answer Accepted
+readSheet s = onTaken (paper 1 sheetBytes sheet s) (λ sh. accepted sh (testingOrder sh))
+
+-- the three papers, read
+pub record Case : Type 0 where
+  pub sheet : Sheet
+  pub order : List ℕ
+  pub card : Card
+  pub happening : Happening
+
+-- "Order: sheet, card, event"
+unfoldable pub readCase : List ℕ → List ℕ → List ℕ → Answer Case
+readCase sheet card event = do
+  a ← readSheet sheet
+  c ← readCard (a .sheet) card
+  h ← readEvent (a .sheet) event
+  taken (record { sheet = a .sheet; order = a .order; card = c; happening = h })
+
+-- The step: "the next card and the tasks started"; these as statuses, yes or no for each stage
+pub record Next : Type 0 where
+  pub card : List ℕ
+  pub tasks : List Bool
+
+-- "a field's value text is that of the event line if the event carries it, otherwise that of the card"
+unfoldable pub next : Case → Next
+next c =
+    let after = leadsTo (c .sheet) (moment (c .card) (c .happening)) (c .order) in
+    record {
+      card = cardText (c .sheet) (putIn (c .happening .puts) (c .card .entries)) after;
+      tasks = started (c .sheet) (c .card .statuses) after;
+    }
+
+-- The outlook: "the list alone", or MANY
+unfoldable pub outlook : Case → Answer (List ℕ)
+outlook c =
+    let m = moment (c .card) (c .happening) in
+    elim (many (c .sheet) m) [ true ↦ refused MANY 0 0 | false ↦ taken (patterns (c .sheet) (c .order) m) ]
+
+-- ROOM: "next card or list longer than the space lent"
+unfoldable pub fitting : {A : Type 0} → (A → List ℕ) → ℕ → A → Answer A
+fitting out room a = cond (leb (length (out a)) room) (taken a) (refused ROOM 0 0)
+
+-- "Order: sheet, card, event, MANY, ROOM"; the step "never gives MANY"
+unfoldable pub stepAnswer : List ℕ → List ℕ → List ℕ → ℕ → Answer Next
+stepAnswer sheet card event room = do
+  c ← readCase sheet card event
+  fitting (λ n. n .card) room (next c)
+
+-- the list, where MANY comes before ROOM
+unfoldable pub outlookAnswer : List ℕ → List ℕ → List ℕ → ℕ → Answer (List ℕ)
+outlookAnswer sheet card event room = do
+  c ← readCase sheet card event
+  l ← outlook c
+  fitting (λ l. l) room l
+
+-- The numbers returned: number, paper and line, how long the card or list is, and the tasks started, "as a pattern"
+pub record Reply : Type 0 where
+  pub number : ℕ
+  pub paper : ℕ
+  pub line : ℕ
+  pub count : ℕ
+  pub tasks : ℕ
+
+-- "Taken gives paper 0 and line 0"; a refusal returns "number, paper .. and line .., its other numbers are 0"
+unfoldable pub replied : {A : Type 0} → (A → ℕ) → (A → ℕ) → Answer A → Reply
+replied count tasks (taken a) = record { number = 0; paper = 0; line = 0; count = count a; tasks = tasks a }
+replied count tasks (refused n p l) = record { number = n; paper = p; line = l; count = 0; tasks = 0 }
+
+-- a refusal "leaves lent space untouched. .. On success, space behind the written part is untouched"
+unfoldable pub written : {A : Type 0} → (A → List ℕ) → List ℕ → Answer A → List ℕ
+written out lent (taken a) = out a ++ drop (length (out a)) lent
+written out lent (refused n p l) = lent
+
+-- What the step returns, and what the space lent to it then holds
+unfoldable pub stepReply : List ℕ → List ℕ → List ℕ → ℕ → Reply
+stepReply sheet card event room = replied (λ n. length (n .card)) (λ n. pattern (n .tasks)) (stepAnswer sheet card event room)
+
+unfoldable pub stepSpace : List ℕ → List ℕ → List ℕ → List ℕ → List ℕ
+stepSpace sheet card event lent = written (λ n. n .card) lent (stepAnswer sheet card event (length lent))
+
+-- What the outlook returns, and what the space lent to it then holds
+unfoldable pub outlookReply : List ℕ → List ℕ → List ℕ → ℕ → Reply
+outlookReply sheet card event room = replied (λ l. length l) (λ l. 0) (outlookAnswer sheet card event room)
+
+unfoldable pub outlookSpace : List ℕ → List ℕ → List ℕ → List ℕ → List ℕ
+outlookSpace sheet card event lent = written (λ l. l) lent (outlookAnswer sheet card event (length lent))

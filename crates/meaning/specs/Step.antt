@@ -1,0 +1,125 @@
+-- The step: when a rule holds, which after sides meet the rules, what a testing order leads to, and the tasks started.
+use Prim.Native.Nat.{ℕ, suc, _+_, _*_, _/_, _%_, _<_}
+use mathlib.Core.Path.{_≡_}
+use mathlib.Core.Bool.{Bool, true, false, not, _&&_, cond}
+use mathlib.Core.List.{List, [], _∷_, map}
+use mathlib.Core.Option.{Option, none, some}
+use lib.ListN.{length, getD, set}
+use lib.Dec.{eqb}
+use Rattle.meaning.specs.Text.{any}
+use Rattle.meaning.specs.Kleene.{known₃, isTrue}
+use Rattle.meaning.specs.Number.{Value, missing, Entry}
+use Rattle.meaning.specs.Condition.{Cond, valueC}
+use Rattle.meaning.specs.Sheet.{Sheet, Status, Sign, plus, minus, Trigger, always, event, rise, fall, Rule, stageOver}
+use Rattle.meaning.specs.Card.{Card, Happening, Put, is}
+use Rattle.meaning.specs.Dependency.{nodes, rulesFor}
+
+-- what a step starts from: the event, the field values after it, the statuses before it
+pub record Moment : Type 0 where
+  pub event : ℕ
+  pub values : List Value
+  pub before : List Bool
+
+-- "the event's values put in": value and text
+unfoldable pub putIn : List Put → List Entry → List Entry
+putIn [] es = es
+putIn (p ∷ ps) es = putIn ps (set es (p .field) (p .entry))
+
+-- the moment of a card and an event line
+unfoldable pub moment : Card → Happening → Moment
+moment c h = record { event = h .event; values = map (λ e. e .value) (putIn (h .puts) (c .entries)); before = c .statuses }
+
+-- WHAT IS MEANT
+
+-- "`+x` means x no before and yes after; `-x` the reverse"
+abbrev pub rose : List Bool → List Bool → ℕ → Bool
+rose before after x = not (is before x) && is after x
+
+-- `-x`: yes before and no after
+abbrev pub fell : List Bool → List Bool → ℕ → Bool
+fell before after x = is before x && not (is after x)
+
+module _ (sh : Sheet) (m : Moment) (after : List Bool) where
+  -- "a `+` rule: its status was no before; a `-` rule: it was yes before"
+  unfoldable pub allowed : Sign → ℕ → Bool
+  allowed plus x = not (is (m .before) x)
+  allowed minus x = is (m .before) x
+
+  -- "its trigger, if any: the event is this one"; a status rose or fell
+  unfoldable pub triggered : Trigger → Bool
+  triggered always = true
+  triggered (event e) = eqb e (m .event)
+  triggered (rise y) = rose (m .before) after y
+  triggered (fall y) = fell (m .before) after y
+
+  -- "its condition, if any, is true (not unknown)", "read on the after side"
+  unfoldable pub fulfilled : Option Cond → Bool
+  fulfilled none = true
+  fulfilled (some c) = isTrue (valueC (λ x. known₃ (is after x)) (λ f. getD (m .values) f missing) c)
+
+  -- "a `+` rule whose status has a parent or home: that stage is yes after"
+  unfoldable pub housed : Sign → Option ℕ → Bool
+  housed plus none = true
+  housed plus (some p) = is after p
+  housed minus p = true
+
+  -- "A rule holds when all of these do"
+  unfoldable pub holds : Rule → Bool
+  holds r = allowed (r .sign) (r .status) && triggered (r .trigger) && fulfilled (r .condition) && housed (r .sign) (stageOver sh (r .status))
+
+  -- some rule for the change of node k holds, the implied one among them
+  unfoldable pub someHolds : ℕ → Bool
+  someHolds k = any holds (rulesFor sh k)
+
+-- the node is one of the nodes `+x`
+unfoldable pub rising : ℕ → Bool
+rising k = eqb (k % 2) 0
+
+-- the change of a node: of `+x` from no to yes, of `-x` from yes to no
+unfoldable pub changes : List Bool → List Bool → ℕ → Bool
+changes before after k = cond (rising k) (rose before after (k / 2)) (fell before after (k / 2))
+
+-- "A status changes exactly when some rule for that change holds"
+pub record Meets (sh : Sheet) (m : Moment) (after : List Bool) : Type 0 where
+  pub long : length after ≡ length (m .before)
+  pub exactly : (k : ℕ) → k < nodes sh → changes (m .before) after k ≡ someHolds sh m after k
+
+-- HOW IT IS COMPUTED: what a list of nodes leads to, on the card half made
+
+-- "sets the status at once if one holds"
+unfoldable pub setIf : Bool → ℕ → List Bool → List Bool
+setIf true k half = set half (k / 2) (rising k)
+setIf false k half = half
+
+-- "at each node it tests that node's rules, .., with the after side read on the card half made so far and the before side on the card given"
+unfoldable pub runOn : (List Bool → ℕ → Bool) → List ℕ → List Bool → List Bool
+runOn test [] half = half
+runOn test (k ∷ o) half = runOn test o (setIf (test half k) k half)
+
+-- "It starts with the before statuses ... What stands at the end is the card it leads to"
+unfoldable pub leadsTo : Sheet → Moment → List ℕ → List Bool
+leadsTo sh m o = runOn (someHolds sh m) o (m .before)
+
+-- this is stage x
+abbrev pub within : ℕ → Option ℕ → Bool
+within x none = false
+within x (some p) = eqb p x
+
+-- "no child stage"
+unfoldable pub childless : List Status → ℕ → Bool
+childless ss x = not (any (λ s. within x (s .under)) ss)
+
+-- "Tasks started: stages that have no child stage and turned yes", yes or no for each of the stages from place x on
+unfoldable pub startedFrom : Sheet → List Bool → List Bool → ℕ → List Status → List Bool
+startedFrom sh before after x [] = []
+startedFrom sh before after x (s ∷ ss) = (childless (sh .stages) x && rose before after x) ∷ startedFrom sh before after (suc x) ss
+
+-- the tasks, yes or no for each stage
+unfoldable pub started : Sheet → List Bool → List Bool → List Bool
+started sh before after = startedFrom sh before after 0 (sh .stages)
+
+-- "bit i of a 32-bit number is status i, .., from bit 0"
+unfoldable pub pattern : List Bool → ℕ
+pattern [] = 0
+pattern (true ∷ bs) = 1 + 2 * pattern bs
+pattern (false ∷ bs) = 2 * pattern bs

@@ -1,0 +1,196 @@
+-- Members of lists: what appending, mapping, joining and keeping do to them, and members by their places.
+use Prim.Native.Nat.{ℕ, zero, suc, _+_, _≤_, _<_}
+use mathlib.Core.Path.{_≡_, refl, sym, _∙_, ap, subst}
+use mathlib.Core.Bool.{Bool, true, false, not, _||_, true≢false, false≢true}
+use mathlib.Core.List.{List, [], _∷_, _++_, map}
+use mathlib.Core.Logic.{_⊎_, inl, inr, ⊎-elim}
+use native.Mathlib.Omega.{arith}
+use native.Mathlib.Decide.{ℕ-discrete}
+use lib.Dec.{eqb}
+use lib.ListN.{length, getD}
+use borrow.Author.Tests.{eq-eqb, eqb-true, eqb-false}
+use Rattle.meaning.specs.Text.{In, any, keep, joined, isIn, from}
+use Rattle.meaning.specs.Graph.{without}
+
+module _ {A : Type 0} where
+  pub in-left : (a : A) (xs ys : List A) → In a xs → In a (xs ++ ys)
+  in-left a [] ys h = absurd h
+  in-left a (x ∷ xs) ys (inl e) = inl e
+  in-left a (x ∷ xs) ys (inr h) = inr (in-left a xs ys h)
+
+  pub in-right : (a : A) (xs ys : List A) → In a ys → In a (xs ++ ys)
+  in-right a [] ys h = h
+  in-right a (x ∷ xs) ys h = inr (in-right a xs ys h)
+
+  pub in-cases : (a : A) (xs ys : List A) → In a (xs ++ ys) → In a xs ⊎ In a ys
+  in-cases a [] ys h = inr h
+  in-cases a (x ∷ xs) ys (inl e) = inl (inl e)
+  in-cases a (x ∷ xs) ys (inr h) = ⊎-elim (λ k. inl (inr k)) (λ k. inr k) (in-cases a xs ys h)
+
+module _ {A B : Type 0} where
+  pub in-map : (f : A → B) (a : A) (xs : List A) → In a xs → In (f a) (map f xs)
+  in-map f a [] h = absurd h
+  in-map f a (x ∷ xs) (inl e) = inl (ap f e)
+  in-map f a (x ∷ xs) (inr h) = inr (in-map f a xs h)
+
+  pub map-in : (f : A → B) (b : B) (xs : List A) → In b (map f xs) → (a : A) × In a xs × (b ≡ f a)
+  map-in f b [] h = absurd h
+  map-in f b (x ∷ xs) (inl e) = (x, inl refl, e)
+  map-in f b (x ∷ xs) (inr h) = let (a, k, e) = map-in f b xs h in (a, inr k, e)
+
+  pub in-joined : (f : A → List B) (a : A) (b : B) (xs : List A) → In a xs → In b (f a) → In b (joined f xs)
+  unfolding joined
+  in-joined f a b [] h k = absurd h
+  in-joined f a b (x ∷ xs) (inl e) k = in-left b (f x) (joined f xs) (subst (λ w. In b (f w)) e k)
+  in-joined f a b (x ∷ xs) (inr h) k = in-right b (f x) (joined f xs) (in-joined f a b xs h k)
+
+  pub joined-in : (f : A → List B) (b : B) (xs : List A) → In b (joined f xs) → (a : A) × In a xs × In b (f a)
+  unfolding joined
+  joined-in f b [] h = absurd h
+  joined-in f b (x ∷ xs) h =
+      ⊎-elim (λ k. (x, inl refl, k)) (λ k. let (a, i, j) = joined-in f b xs k in (a, inr i, j)) (in-cases b (f x) (joined f xs) h)
+
+-- tests and statements
+pub is-in : (i : ℕ) (l : List ℕ) → isIn i l ≡ true → In i l
+unfolding any
+is-in i [] t = false≢true t
+is-in i (x ∷ l) t = go (eqb i x) refl t (is-in i l)
+  where
+    go : (b : Bool) → eqb i x ≡ b → b || any (eqb i) l ≡ true → (any (eqb i) l ≡ true → In i l) → In i (x ∷ l)
+    go true e t ih = inl (eqb-true i x e)
+    go false e t ih = inr (ih t)
+
+-- a common member, found by the test
+pub common : (ps left : List ℕ) → any (λ p. isIn p left) ps ≡ true → (p : ℕ) × In p left × (isIn p ps ≡ true)
+unfolding any
+common [] left t = absurd (false≢true t)
+common (q ∷ ps) left t = go (isIn q left) refl t (common ps left)
+  where
+    wider : (b : Bool) → b || true ≡ true
+    wider true = refl
+    wider false = refl
+
+    go : (b : Bool) → isIn q left ≡ b → b || any (λ p. isIn p left) ps ≡ true
+        → (any (λ p. isIn p left) ps ≡ true → (p : ℕ) × In p left × (isIn p ps ≡ true)) → (p : ℕ) × In p left × (eqb p q || isIn p ps ≡ true)
+    go true e t ih = (q, is-in q left e, rw (eq-eqb q q refl))
+    go false e t ih = let (p, m, l) = ih t in (p, m, rw l (wider (eqb p q)))
+
+pub in-is : (i : ℕ) (l : List ℕ) → In i l → isIn i l ≡ true
+unfolding any
+in-is i [] m = absurd m
+in-is i (x ∷ l) (inl e) = rw (eq-eqb i x e)
+in-is i (x ∷ l) (inr m) = go (eqb i x) (in-is i l m)
+  where
+    go : (b : Bool) → any (eqb i) l ≡ true → b || any (eqb i) l ≡ true
+    go true t = refl
+    go false t = t
+
+pub apart : (ps left : List ℕ) → any (λ p. isIn p left) ps ≡ false → (p : ℕ) → In p left → In p ps → ⊥
+unfolding any
+apart [] left t p m h = h
+apart (q ∷ ps) left t p m (inl e) = go (isIn q left) (subst (λ w. isIn w left ≡ true) e (in-is p left m)) t
+  where
+    go : (b : Bool) → b ≡ true → b || any (λ p. isIn p left) ps ≡ false → ⊥
+    go true e t = true≢false t
+    go false e t = false≢true e
+apart (q ∷ ps) left t p m (inr h) = apart ps left (go (isIn q left) t) p m h
+  where
+    go : (b : Bool) → b || any (λ p. isIn p left) ps ≡ false → any (λ p. isIn p left) ps ≡ false
+    go true t = absurd (true≢false t)
+    go false t = t
+
+-- what is left without k
+pub in-without : (i k : ℕ) (l : List ℕ) → In i l → (i ≡ k → ⊥) → In i (without k l)
+unfolding without keep
+in-without i k [] m ne = m
+in-without i k (x ∷ l) m ne = go (eqb x k) refl m (λ h. in-without i k l h ne)
+  where
+    go : (b : Bool) → eqb x k ≡ b → In i (x ∷ l) → (In i l → In i (without k l))
+        → In i (elim (not b) [ true ↦ x ∷ keep (λ j. not (eqb j k)) l | false ↦ keep (λ j. not (eqb j k)) l ])
+    go true e (inl h) ih = absurd (ne (h ∙ eqb-true x k e))
+    go true e (inr h) ih = ih h
+    go false e (inl h) ih = inl h
+    go false e (inr h) ih = inr (ih h)
+
+pub without-in : (i k : ℕ) (l : List ℕ) → In i (without k l) → In i l × (i ≡ k → ⊥)
+unfolding without keep
+without-in i k [] m = absurd m
+without-in i k (x ∷ l) m = go (eqb x k) refl m (without-in i k l)
+  where
+    go : (b : Bool) → eqb x k ≡ b → In i (elim (not b) [ true ↦ x ∷ keep (λ j. not (eqb j k)) l | false ↦ keep (λ j. not (eqb j k)) l ])
+        → (In i (without k l) → In i l × (i ≡ k → ⊥)) → In i (x ∷ l) × (i ≡ k → ⊥)
+    go true e m ih = (inr (ih m .0), ih m .1)
+    go false e (inl h) ih = (inl h, λ q. eqb-false x k e (sym h ∙ q))
+    go false e (inr m) ih = (inr (ih m .0), ih m .1)
+
+-- no member twice
+abbrev pub Once : List ℕ → Type 0
+Once [] = Unit {0}
+Once (x ∷ l) = (In x l → ⊥) × Once l
+
+pub once-without : (k : ℕ) (l : List ℕ) → Once l → Once (without k l)
+unfolding without keep
+once-without k [] o = tt
+once-without k (x ∷ l) o = go (eqb x k) (once-without k l (o .1))
+  where
+    go : (b : Bool) → Once (without k l) → Once (elim (not b) [ true ↦ x ∷ keep (λ j. not (eqb j k)) l | false ↦ keep (λ j. not (eqb j k)) l ])
+    go true h = h
+    go false h = (λ m. o .0 (without-in x k l m .0), h)
+
+pub length-absent : (k : ℕ) (l : List ℕ) → (In k l → ⊥) → length (without k l) ≡ length l
+unfolding without keep
+length-absent k [] n = refl
+length-absent k (x ∷ l) n = go (eqb x k) refl (length-absent k l (λ m. n (inr m)))
+  where
+    go : (b : Bool) → eqb x k ≡ b → length (without k l) ≡ length l
+        → length {A = ℕ} (elim (not b) [ true ↦ x ∷ keep (λ j. not (eqb j k)) l | false ↦ keep (λ j. not (eqb j k)) l ]) ≡ suc (length l)
+    go true e h = absurd (n (inl (sym (eqb-true x k e))))
+    go false e h = ap suc h
+
+pub length-without : (k : ℕ) (l : List ℕ) → Once l → In k l → suc (length (without k l)) ≡ length l
+unfolding without keep
+length-without k [] o m = absurd m
+length-without k (x ∷ l) o m = go (eqb x k) refl m (length-without k l (o .1))
+  where
+    go : (b : Bool) → eqb x k ≡ b → In k (x ∷ l) → (In k l → suc (length (without k l)) ≡ length l)
+        → suc (length {A = ℕ} (elim (not b) [ true ↦ x ∷ keep (λ j. not (eqb j k)) l | false ↦ keep (λ j. not (eqb j k)) l ])) ≡ suc (length l)
+    go true e m ih = ap suc (length-absent k l (λ h. o .0 (subst (λ w. In w l) (sym (eqb-true x k e)) h)))
+    go false e (inl q) ih = absurd (eqb-false x k e (sym q))
+    go false e (inr h) ih = ap suc (ih h)
+
+-- the numbers from i on
+pub from-in : (n i k : ℕ) → In k (from i n) → (i ≤ k) × (k < i + n)
+unfolding from
+from-in zero i k m = absurd m
+from-in (suc n) i k (inl e) = (omega arith, omega arith)
+from-in (suc n) i k (inr m) = let h = from-in n (suc i) k m in (omega (arith, h .0), omega (arith, h .1))
+
+pub in-from : (n i k : ℕ) → i ≤ k → k < i + n → In k (from i n)
+unfolding from
+in-from zero i k h g = absurd (omega arith)
+in-from (suc n) i k h g = go (ℕ-discrete k i) (in-from n (suc i) k)
+  where
+    go : Dec (k ≡ i) → (suc i ≤ k → k < suc i + n → In k (from (suc i) n)) → In k (i ∷ from (suc i) n)
+    go (yes e) ih = inl e
+    go (no ne) ih = inr (ih (omega arith) (omega arith))
+
+pub from-once : (n i : ℕ) → Once (from i n)
+unfolding from
+from-once zero i = tt
+from-once (suc n) i = (λ m. let h : suc i ≤ i = from-in n (suc i) i m .0 in omega arith, from-once n (suc i))
+
+pub from-length : (n i : ℕ) → length (from i n) ≡ n
+unfolding from
+from-length zero i = refl
+from-length (suc n) i = ap suc (from-length n (suc i))
+
+-- members by their places
+pub placed-at : (o : List ℕ) (k : ℕ) → In k o → (i : ℕ) × (i < length o) × (getD o i 0 ≡ k)
+placed-at [] k m = absurd m
+placed-at (x ∷ o) k (inl e) = (0, omega arith, sym e)
+placed-at (x ∷ o) k (inr m) = let (i, h, e) = placed-at o k m in (suc i, omega arith, e)
+
+pub at-place : (o : List ℕ) (i : ℕ) → i < length o → In (getD o i 0) o
+at-place [] i h = absurd (omega arith)
+at-place (x ∷ o) zero h = inl refl
+at-place (x ∷ o) (suc i) h = inr (at-place o i (omega arith))
