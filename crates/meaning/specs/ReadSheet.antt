@@ -11,7 +11,7 @@ use Rattle.meaning.specs.Reading.{Reader, _>>=_, _>>_, give, refuse, dem
 use Rattle.meaning.specs.Name.{Name, name, newName, known}
 use Rattle.meaning.specs.Number.{endLine}
 use Rattle.meaning.specs.ReadCondition.{condition}
-use Rattle.meaning.specs.Sheet.{Sheet, Event, Status, Sign, plus, minus, Trigger, always, event, rise, fall, Rule, eventNames, statusNames, leaves}
+use Rattle.meaning.specs.Sheet.{Sheet, Event, Status, Sign, plus, minus, Trigger, always, event, rise, fall, Rule, eventNames, statusNames, statuses, withRules, leaves}
 
 -- a section: lines that begin with its key, at most `room` more behind the rows `so`; "told as soon as its key is read"
 unfoldable pub section : {A : Type 0} → List ℕ → (List A → Reader A) → ℕ → List A → Reader (List A)
@@ -95,9 +95,9 @@ module _ (fields events statuses : List Name) where
     lineEnd (cond asks COND LINE)
     give (record { sign = g; status = x; trigger = t; condition = c })
 
--- the whole sheet with the limits of its sections; "Stages and miles together: 0 to 32"
-unfoldable pub sheet : Reader Sheet
-sheet = do
+-- what stands above the rules, with the limits of its sections; "Stages and miles together: 0 to 32"
+unfoldable pub heads : Reader Sheet
+heads = do
   due LINE (text "model=")
   m ← name
   lineEnd LINE
@@ -106,6 +106,18 @@ sheet = do
   let used = fields ++ eventNames events
   stages ← section (text "stage=") (stageRow used) statusLimit []
   miles ← section (text "mile=") (mileRow used stages) (statusLimit - length stages) []
-  rules ← section (text "rule=") (ruleRow fields (eventNames events) (statusNames (stages ++ miles))) ruleLimit []
+  give (record { model = m; fields = fields; events = events; stages = stages; miles = miles; rules = [] })
+
+-- the rules of a sheet of which the rest is known, and "`end=N`, N the number of rule lines"
+unfoldable pub rulesOf : Sheet → Reader (List Rule)
+rulesOf sh = do
+  rules ← section (text "rule=") (ruleRow (sh .fields) (eventNames (sh .events)) (statusNames (statuses sh))) ruleLimit []
   endLine (length rules)
-  give (record { model = m; fields = fields; events = events; stages = stages; miles = miles; rules = rules })
+  give rules
+
+-- the whole sheet
+unfoldable pub sheet : Reader Sheet
+sheet = do
+  sh ← heads
+  rules ← rulesOf sh
+  give (withRules sh rules)
