@@ -1,5 +1,9 @@
 -- Lists:
 pub mod Lists
 pub mod Ascending
--- Testing orders of any graph:
+-- Any graph: its testing orders, and rule systems over it:
 pub mod Orders
+pub mod Systems
+-- Two nodes for each status, and any test of them on a side:
+pub mod Sides
+pub mod Polar

@@ -2,7 +2,7 @@
 use Prim.Native.Nat.{ℕ, zero, suc, _<_}
 use mathlib.Core.Path.{_≡_, refl, sym, ap, subst}
 use mathlib.Core.Bool.{Bool, true, false}
-use mathlib.Core.List.{List, [], _∷_}
+use mathlib.Core.List.{List, [], _∷_, _++_}
 use mathlib.Core.Option.{Option, none, some}
 use mathlib.Core.Logic.{inl, inr, ⊎-elim, _↔_}
 use native.Mathlib.Omega.{arith}
@@ -10,7 +10,7 @@ use native.Mathlib.Decide.{ℕ-discrete}
 use lib.ListN.{length, getD}
 use Rattle.meaning.specs.Text.{In, from}
 use Rattle.meaning.specs.Graph.{Into, edge, Path, one, more, Cycle, Acyclic, Inside, TestingOrder, waits, firstFree, without, then, first, orderOf, orderFor}
-use Rattle.theory.specs.Lists.{is-in, common, apart, in-without, without-in, Once, once-without, length-without, from-in, in-from, from-once, from-length, placed-at, at-place}
+use Rattle.theory.specs.Lists.{in-left, is-in, common, apart, in-without, without-in, Once, once-without, length-without, from-in, in-from, from-once, from-length, placed-at, at-place}
 
 -- THE VIEW FROM THE FRONT
 
@@ -56,6 +56,16 @@ places-sorted into (x ∷ o) once later = (
 -- a testing order is sorted
 pub sorted-from : (n : ℕ) (into : Into) (o : List ℕ) → TestingOrder n into o → Sorted into o
 sorted-from n into o t = places-sorted into o (t .once) (t .later)
+
+-- the front of a sorted list is sorted
+pub sorted-front : (into : Into) (o p : List ℕ) → Sorted into (o ++ p) → Sorted into o
+sorted-front into [] p s = tt
+sorted-front into (x ∷ o) p s = (λ y m e. s .0 y (in-left y (x ∷ o) p m) e, λ m. s .1 (in-left x o p m), sorted-front into o p (s .2))
+
+-- and so is the rest of it
+pub sorted-back : (into : Into) (o p : List ℕ) → Sorted into (o ++ p) → Sorted into p
+sorted-back into [] p s = s
+sorted-back into (x ∷ o) p s = sorted-back into o p (s .2)
 
 -- every node is a member of a testing order
 pub order-every : (n : ℕ) (into : Into) (o : List ℕ) → TestingOrder n into o → (k : ℕ) → k < n → In k o
