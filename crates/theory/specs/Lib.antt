@@ -7,3 +7,6 @@ pub mod Systems
 -- Two nodes for each status, and any test of them on a side:
 pub mod Sides
 pub mod Polar
+-- The step of a sheet:
+pub mod Rules
+pub mod Next

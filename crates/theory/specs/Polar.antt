@@ -13,7 +13,7 @@ use Rattle.meaning.specs.Dependency.{up, down}
 use Rattle.meaning.specs.Step.{rising, changes, setIf, runOn}
 use Rattle.theory.specs.Orders.{Sorted, sorted-from, sorted-front, sorted-back}
 use Rattle.theory.specs.Systems.{put, put-other, run, run-joined, run-other, Meets, Reads, order-meets, unique}
-use Rattle.theory.specs.Sides.{allows, same-status, sideOf, side-none, side-changes, changes-side, set-side}
+use Rattle.theory.specs.Sides.{allows, same-status, sideOf, side-none, side-changes, changes-side, changes-same, set-side}
 
 -- a run keeps the length
 pub run-length : (test : List Bool → ℕ → Bool) (o : List ℕ) (c : List Bool) → length (runOn test o c) ≡ length c
@@ -43,26 +43,21 @@ module _ (before : List Bool) (test : List Bool → ℕ → Bool) (gate : (c : L
           ∙ from-values o (so .2) (put f k (next f k)) (λ j m. put-other f k (next f k) j (λ e. so .1 (subst (λ w. In w o) e m)) ∙ new j (inr m))
 
   -- and which reads of a side only the changes at a node's predecessors, with two nodes for each of m statuses:
-  module _ (m : ℕ) (long : length before ≡ m) (into : Into) (inside : Inside (m * 2) into)
+  module _ (m : ℕ) (long : length before ≡ m) (into : Into)
       (sees : (k : ℕ) (c d : List Bool) → ((p : ℕ) → edge into p k ≡ true → changes before c p ≡ changes before d p) → test c k ≡ test d k) where
-    at : (k : ℕ) → k < m * 2 → k < length before * 2
-    at k h = omega arith
-
     next-reads : Reads into next
-    next-reads k f g h =
-        sees k (sideOf before f) (sideOf before g)
-        (λ p e. changes-side before f p (at p (inside p k e .0)) ∙ ap (λ b. allows before p && b) (h p e) ∙ sym (changes-side before g p (at p (inside p k e .0))))
+    next-reads k f g h = sees k (sideOf before f) (sideOf before g) (λ p e. changes-same before f g p (h p e))
 
     -- a testing order leads to a side on which a status has changed exactly when the test of that change holds
     pub order-stands : (o : List ℕ) → TestingOrder (m * 2) into o
         → (k : ℕ) → k < m * 2 → changes before (runOn test o before) k ≡ test (runOn test o before) k
-    order-stands o t k l = rw (half-made into o (sorted-from (m * 2) into o t)) (changes-side before f k (at k l) ∙ gated (f k) refl ∙ meets)
+    order-stands o t k l = rw (half-made into o (sorted-from (m * 2) into o t)) (changes-side before f k (omega arith) ∙ gated (f k) refl ∙ meets)
       where
         f : ℕ → Bool
         f = run next o (λ j. false)
 
         meets : f k ≡ next f k
-        meets = order-meets (m * 2) into inside next next-reads o t (λ j. false) k l
+        meets = order-meets into next next-reads (m * 2) o t (λ j. false) k l
 
         gated : (b : Bool) → f k ≡ b → allows before k && b ≡ b
         gated true e = rw (gate (sideOf before f) k (sym meets ∙ e))
@@ -73,9 +68,9 @@ module _ (before : List Bool) (test : List Bool → ℕ → Bool) (gate : (c : L
             and-none false = refl
 
     -- there is one such side
-    pub one-side : Acyclic into → (c d : List Bool) → length c ≡ length before → length d ≡ length before
+    pub one-side : Inside (m * 2) into → Acyclic into → (c d : List Bool) → length c ≡ length before → length d ≡ length before
         → ((k : ℕ) → k < m * 2 → changes before c k ≡ test c k) → ((k : ℕ) → k < m * 2 → changes before d k ≡ test d k) → c ≡ d
-    one-side ac c d lc ld sc sd = ext-getD false c d (lc ∙ sym ld) (λ x h. same-status before c d x (same (up x) (omega arith)) (same (down x) (omega arith)))
+    one-side inside ac c d lc ld sc sd = ext-getD false c d (lc ∙ sym ld) (λ x h. same-status before c d x (same (up x) (omega arith)) (same (down x) (omega arith)))
       where
         meets : (c : List Bool) → length c ≡ length before → ((k : ℕ) → k < m * 2 → changes before c k ≡ test c k) → Meets (m * 2) next (changes before c)
         meets c l s k h = s k h ∙ ap (λ w. test w k) (side-changes before c l)
@@ -88,13 +83,10 @@ module _ (before : List Bool) (test : List Bool → ℕ → Bool) (gate : (c : L
         → (p : ℕ) → edge into p k ≡ true → changes before (runOn test front before) p ≡ changes before (runOn test o before) p
     preceding-final o front k back e t p h =
         rw (half-made into front (sorted-front into front (k ∷ back) so), half-made into o (sorted-from (m * 2) into o t))
-        (changes-side before f p b ∙ ap (λ v. allows before p && v) same ∙ sym (changes-side before (run next o (λ j. false)) p b))
+        (changes-same before f (run next o (λ j. false)) p same)
       where
         f : ℕ → Bool
         f = run next front (λ j. false)
-
-        b : p < length before * 2
-        b = at p (inside p k h .0)
 
         so : Sorted into (front ++ k ∷ back)
         so = subst (Sorted into) e (sorted-from (m * 2) into o t)

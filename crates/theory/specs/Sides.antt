@@ -1,11 +1,11 @@
 -- Two nodes for each status: the changes that a side shows, and the side that values of the nodes make.
-use Prim.Native.Nat.{ℕ, zero, suc, _*_, _/_, _%_, _<_}
+use Prim.Native.Nat.{ℕ, zero, suc, _*_, _/_, _%_, _≤_, _<_}
 use mathlib.Core.Path.{_≡_, refl, sym, _∙_, ap, ap₂, fun-ext}
 use mathlib.Core.Bool.{Bool, true, false, not, _&&_, cond, true≢false, false≢true}
 use mathlib.Core.List.{List, [], _∷_}
 use mathlib.Core.Logic.{_⊎_, inl, inr}
 use native.Mathlib.Omega.{arith}
-use native.Mathlib.Decide.{ℕ-discrete}
+use native.Mathlib.Decide.{ℕ-discrete, decLt}
 use lib.ListN.{length, getD, set, length-set}
 use lib.Seq.{getD-set-same, getD-set-other, ext-getD}
 use borrow.Author.Tests.{eq-eqb, ne-eqb, not-true}
@@ -99,6 +99,12 @@ side-at (b ∷ bs) f (suc x) h =
     let u : suc (suc (up x)) ≡ up (suc x) = omega arith in
     side-at bs (λ k. f (suc (suc k))) x (omega arith) ∙ ap₂ (λ v w. cond (is bs x) (not (f v)) (f w)) d u
 
+side-past : (before : List Bool) (f : ℕ → Bool) (x : ℕ) → length before ≤ x → is (sideOf before f) x ≡ false
+unfolding sideOf
+side-past [] f x h = refl
+side-past (b ∷ bs) f zero h = absurd (omega arith)
+side-past (b ∷ bs) f (suc x) h = side-past bs (λ k. f (suc (suc k))) x (omega arith)
+
 -- a side is that of node values if it is so at each place
 side-by : (before c : List Bool) (f : ℕ → Bool) → length c ≡ length before
     → ((x : ℕ) → x < length before → is c x ≡ cond (is before x) (not (f (down x))) (f (up x))) → c ≡ sideOf before f
@@ -139,6 +145,15 @@ changes-side before f k h = go (signed k)
     go : (k ≡ up (k / 2)) ⊎ (k ≡ down (k / 2)) → changes before (sideOf before f) k ≡ allows before k && f k
     go (inl e) = rw (side-at before f (k / 2) (omega arith), up-rising k (k / 2) e, ← e) (ups (is before (k / 2)) _ (f k))
     go (inr e) = rw (side-at before f (k / 2) (omega arith), down-falling k (k / 2) e, ← e) (downs (is before (k / 2)) (f k) _)
+
+-- node values that agree at a node make the same change of it
+pub changes-same : (before : List Bool) (f g : ℕ → Bool) (k : ℕ) → f k ≡ g k → changes before (sideOf before f) k ≡ changes before (sideOf before g) k
+unfolding changes
+changes-same before f g k e = go (decLt k (length before * 2))
+  where
+    go : Dec (k < length before * 2) → changes before (sideOf before f) k ≡ changes before (sideOf before g) k
+    go (yes h) = changes-side before f k h ∙ ap (λ b. allows before k && b) e ∙ sym (changes-side before g k h)
+    go (no h) = rw (side-past before f (k / 2) (omega arith), side-past before g (k / 2) (omega arith))
 
 put-false : (f : ℕ → Bool) (k : ℕ) → f k ≡ false → f ≡ put f k false
 put-false f k e = fun-ext (λ j. go j (ℕ-discrete j k))

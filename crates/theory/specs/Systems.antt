@@ -79,6 +79,10 @@ module _ {W : Type 0} (into : Into) (next : (ℕ → W) → ℕ → W) (reads : 
   run-meets (x ∷ o) so a i (inr m) = run-meets o (so .2) (put a x (next a x)) i m
   run-meets (x ∷ o) so a i (inl e) = rw e (run-other next o (put a x (next a x)) x (so .1) ∙ put-same a x (next a x) x refl ∙ run-head x o so a)
 
+  -- a testing order leads to an assignment that meets the rules, whatever it starts with
+  pub order-meets : (n : ℕ) (o : List ℕ) → TestingOrder n into o → (a : ℕ → W) → Meets n next (run next o a)
+  order-meets n o t a i h = run-meets o (sorted-from n into o t) a i (order-every n into o t i h)
+
 -- Two rule systems on one graph, whose values at a node are related where those at its predecessors are: what meets the one is related to what meets the other.
 module _ {W₁ W₂ : Type 0} (into : Into) (R : ℕ → W₁ → W₂ → Type 0)
     (next₁ : (ℕ → W₁) → ℕ → W₁) (next₂ : (ℕ → W₂) → ℕ → W₂)
@@ -115,10 +119,6 @@ module _ {W₁ W₂ : Type 0} (into : Into) (R : ℕ → W₁ → W₂ → Type 
 
 -- a rule system on a graph without cycles has exactly one assignment that meets it, and every testing order leads there
 module _ {W : Type 0} (n : ℕ) (into : Into) (inside : Inside n into) (next : (ℕ → W) → ℕ → W) (reads : Reads into next) where
-  -- a testing order leads to an assignment that meets the rules, whatever it starts with
-  pub order-meets : (o : List ℕ) → TestingOrder n into o → (a : ℕ → W) → Meets n next (run next o a)
-  order-meets o t a i h = run-meets into next reads o (sorted-from n into o t) a i (order-every n into o t i h)
-
   -- no two assignments meet the rules
   pub unique : Acyclic into → (a b : ℕ → W) → Meets n next a → Meets n next b → (i : ℕ) → i < n → a i ≡ b i
   unique = related into (λ (i : ℕ) (v w : W). v ≡ w) next next reads n inside
@@ -126,8 +126,8 @@ module _ {W : Type 0} (n : ℕ) (into : Into) (inside : Inside n into) (next : (
   -- all testing orders lead to the same, whatever they start with
   pub orders-agree : (o₁ o₂ : List ℕ) → TestingOrder n into o₁ → TestingOrder n into o₂ → (a₁ a₂ : ℕ → W) → (i : ℕ) → i < n → run next o₁ a₁ i ≡ run next o₂ a₂ i
   orders-agree o₁ o₂ t₁ t₂ a₁ a₂ =
-      unique (order-acyclic n into inside o₁ t₁) (run next o₁ a₁) (run next o₂ a₂) (order-meets o₁ t₁ a₁) (order-meets o₂ t₂ a₂)
+      unique (order-acyclic n into inside o₁ t₁) (run next o₁ a₁) (run next o₂ a₂) (order-meets into next reads n o₁ t₁ a₁) (order-meets into next reads n o₂ t₂ a₂)
 
   -- some assignment meets the rules
   pub exists : Acyclic into → (ℕ → W) → (a : ℕ → W) × Meets n next a
-  exists ac a = let (o, t) = order-exists n into ac in (run next o a, order-meets o t a)
+  exists ac a = let (o, t) = order-exists n into ac in (run next o a, order-meets into next reads n o t a)
