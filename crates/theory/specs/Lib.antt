@@ -10,3 +10,4 @@ pub mod Polar
 -- The step of a sheet:
 pub mod Rules
 pub mod Next
+pub mod Shelter

@@ -50,6 +50,7 @@ module _ {A B : Type 0} where
   joined-in f b (x ∷ xs) h =
       ⊎-elim (λ k. (x, inl refl, k)) (λ k. let (a, i, j) = joined-in f b xs k in (a, inr i, j)) (in-cases b (f x) (joined f xs) h)
 
+-- the members that pass a test, and whether some member does
 module _ {A : Type 0} (p : A → Bool) where
   pub in-keep : (a : A) (xs : List A) → In a xs → p a ≡ true → In a (keep p xs)
   unfolding keep

@@ -1,5 +1,5 @@
 -- The step of a sheet has one answer: what any testing order leads to meets the rules, and no two sides do.
-use mathlib.Core.Path.{_≡_, refl}
+use mathlib.Core.Path.{_≡_}
 use mathlib.Core.Bool.{Bool}
 use mathlib.Core.List.{List, _∷_, _++_}
 use Prim.Native.Nat.{ℕ}

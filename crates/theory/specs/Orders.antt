@@ -43,6 +43,7 @@ order-from n into o every only s = record {
   later = sorted-later into o s;
 }
 
+-- a list with each node at one place and each edge to a later one is sorted
 places-sorted : (into : Into) (o : List ℕ) → ((i j : ℕ) → i < length o → j < length o → getD o i 0 ≡ getD o j 0 → i ≡ j)
     → ((i j : ℕ) → i < length o → j < length o → edge into (getD o i 0) (getD o j 0) ≡ true → i < j) → Sorted into o
 places-sorted into [] once later = tt
@@ -105,6 +106,7 @@ module _ (into : Into) where
   Found left ks none = (k : ℕ) → In k ks → waits into left k ≡ true
   Found left ks (some k) = In k ks × (waits into left k ≡ false)
 
+  -- that is what is found
   found : (left ks : List ℕ) → Found left ks (firstFree into left ks)
   unfolding firstFree
   found left [] = λ k m. absurd m
@@ -149,6 +151,7 @@ module _ (into : Into) where
   Outcome left none = Cycle into
   Outcome left (some o) = Orders left o
 
+  -- that is what comes of them
   outcome : (n : ℕ) (left : List ℕ) → length left ≡ n → Once left → Outcome left (orderOf into n left)
   unfolding orderOf
   outcome zero left len u = record { every = λ k m. absurd (none-left left len k m); only = λ k m. absurd m; sorted = tt }
@@ -194,6 +197,7 @@ order-exists n into ac = go (orderFor n into) refl
 
 module _ (n : ℕ) (into : Into) (inside : Inside n into) where
   module _ (o : List ℕ) (t : TestingOrder n into o) where
+    -- a path leads to a later place
     path-later : (x y a b : ℕ) → Path into x y → a < length o → b < length o → getD o a 0 ≡ x → getD o b 0 ≡ y → a < b
     path-later x y a b (one e) h g p q = t .later a b h g (rw (p, q) e)
     path-later x y a b (more {j = m} e r) h g p q =
@@ -202,6 +206,7 @@ module _ (n : ℕ) (into : Into) (inside : Inside n into) where
         let v : c < b = path-later m y c b r l g z q in
         omega arith
 
+    -- a path starts at a node
     starts-inside : (x y : ℕ) → Path into x y → x < n
     starts-inside x y (one e) = inside x y e .0
     starts-inside x y (more {j = m} e r) = inside x m e .0

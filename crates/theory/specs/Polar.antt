@@ -45,6 +45,7 @@ module _ (before : List Bool) (test : List Bool → ℕ → Bool) (gate : (c : L
   -- and which reads of a side only the changes at a node's predecessors, with two nodes for each of m statuses:
   module _ (m : ℕ) (long : length before ≡ m) (into : Into)
       (sees : (k : ℕ) (c d : List Bool) → ((p : ℕ) → edge into p k ≡ true → changes before c p ≡ changes before d p) → test c k ≡ test d k) where
+    -- what a node gets on node values is read off its predecessors
     next-reads : Reads into next
     next-reads k f g h = sees k (sideOf before f) (sideOf before g) (λ p e. changes-same before f g p (h p e))
 

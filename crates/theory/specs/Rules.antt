@@ -1,5 +1,5 @@
 -- The rules of a sheet: a rule reads of the after side only the changes at its sources, and holds only of a change that the before side allows.
-use Prim.Native.Nat.{ℕ, _/_, _%_}
+use Prim.Native.Nat.{ℕ}
 use mathlib.Core.Path.{_≡_, refl, sym, _∙_, ap, ap₂, subst}
 use mathlib.Core.Bool.{Bool, true, false, _&&_}
 use mathlib.Core.List.{List, _++_}
@@ -27,9 +27,11 @@ module _ (sh : Sheet) (m : Moment) (c d : List Bool) where
   abbrev Agree : List ℕ → Type 0
   Agree ps = (p : ℕ) → In p ps → changes (m .before) c p ≡ changes (m .before) d p
 
+  -- so a status is the same on both
   same-at : (x : ℕ) → Agree (both x) → is c x ≡ is d x
   same-at x a = same-status (m .before) c d x (a (up x) (inl refl)) (a (down x) (inr (inl refl)))
 
+  -- and so is what a trigger answers,
   same-trigger : (t : Trigger) → Agree (fromTrigger t) → triggered sh m c t ≡ triggered sh m d t
   unfolding triggered fromTrigger
   same-trigger always a = refl
@@ -37,26 +39,31 @@ module _ (sh : Sheet) (m : Moment) (c d : List Bool) where
   same-trigger (rise y) a = sym (changes-up (m .before) c y) ∙ a (up y) (inl refl) ∙ changes-up (m .before) d y
   same-trigger (fall y) a = sym (changes-down (m .before) c y) ∙ a (down y) (inl refl) ∙ changes-down (m .before) d y
 
+  -- a parent or home,
   same-home : (g : Sign) (h : Option ℕ) → Agree (fromHome g h) → housed sh m c g h ≡ housed sh m d g h
   unfolding housed fromHome
   same-home plus none a = refl
   same-home plus (some p) a = same-at p a
   same-home minus h a = refl
 
+  -- the statuses of a side, and the fields, as a condition reads them
   abbrev statusOf : List Bool → ℕ → Kleene
   statusOf side x = known₃ (is side x)
 
   abbrev fieldOf : ℕ → Value
   fieldOf f = getD (m .values) f missing
 
+  -- a leaf,
   same-leaf : (x : Leaf) → Agree (fromLeaf x) → valueL (statusOf c) fieldOf x ≡ valueL (statusOf d) fieldOf x
   unfolding valueL fromLeaf
   same-leaf (Leaf.status x) a = ap known₃ (same-at x a)
   same-leaf (Leaf.compare k) a = refl
 
+  -- the sides show the same changes at what the leaves read
   abbrev AtLeaves : List Leaf → Type 0
   AtLeaves xs = (x : Leaf) → In x xs → Agree (fromLeaf x)
 
+  -- and a condition
   mutual
     unfolding valueC valueA valueI leavesC leavesA leavesI
 
@@ -73,6 +80,7 @@ module _ (sh : Sheet) (m : Moment) (c d : List Bool) where
     same-item (Item.neg i) h = ap not₃ (same-item i h)
     same-item (Item.group e) h = same-cond e h
 
+  -- a condition, if any
   same-fulfilled : (e : Option Cond) → AtLeaves (leavesOf e) → fulfilled sh m c e ≡ fulfilled sh m d e
   unfolding fulfilled leavesOf
   same-fulfilled none h = refl

@@ -6,7 +6,7 @@ use mathlib.Core.List.{List, [], _∷_}
 use mathlib.Core.Logic.{_⊎_, inl, inr}
 use native.Mathlib.Omega.{arith}
 use native.Mathlib.Decide.{ℕ-discrete, decLt}
-use lib.ListN.{length, getD, set, length-set}
+use lib.ListN.{length, set, length-set}
 use lib.Seq.{getD-set-same, getD-set-other, ext-getD}
 use borrow.Author.Tests.{eq-eqb, ne-eqb, not-true}
 use Rattle.meaning.specs.Card.{is}
@@ -20,10 +20,12 @@ use Rattle.theory.specs.Systems.{put, put-same, put-other}
 unfoldable pub allows : List Bool → ℕ → Bool
 allows before k = cond (rising k) (not (is before (k / 2))) (is before (k / 2))
 
+-- the sign of `+x`
 up-rising : (k x : ℕ) → k ≡ up x → rising k ≡ true
 unfolding rising
 up-rising k x e = eq-eqb (k % 2) 0 (omega arith)
 
+-- the sign of `-x`
 down-falling : (k x : ℕ) → k ≡ down x → rising k ≡ false
 unfolding rising
 down-falling k x e = ne-eqb (k % 2) 0 (omega arith)
@@ -99,6 +101,7 @@ side-at (b ∷ bs) f (suc x) h =
     let u : suc (suc (up x)) ≡ up (suc x) = omega arith in
     side-at bs (λ k. f (suc (suc k))) x (omega arith) ∙ ap₂ (λ v w. cond (is bs x) (not (f v)) (f w)) d u
 
+-- past its end a status is no
 side-past : (before : List Bool) (f : ℕ → Bool) (x : ℕ) → length before ≤ x → is (sideOf before f) x ≡ false
 unfolding sideOf
 side-past [] f x h = refl
@@ -155,6 +158,7 @@ changes-same before f g k e = go (decLt k (length before * 2))
     go (yes h) = changes-side before f k h ∙ ap (λ b. allows before k && b) e ∙ sym (changes-side before g k h)
     go (no h) = rw (side-past before f (k / 2) (omega arith), side-past before g (k / 2) (omega arith))
 
+-- putting false where false stood changes nothing
 put-false : (f : ℕ → Bool) (k : ℕ) → f k ≡ false → f ≡ put f k false
 put-false f k e = fun-ext (λ j. go j (ℕ-discrete j k))
   where

@@ -1,7 +1,7 @@
 -- Rule systems over a graph: what a node gets is read off its predecessors. One assignment meets the rules, and every testing order leads to it.
 use Prim.Native.Nat.{ℕ, _<_}
-use mathlib.Core.Path.{_≡_, refl, sym, _∙_, ap, subst, subst₂}
-use mathlib.Core.Bool.{Bool, true}
+use mathlib.Core.Path.{_≡_, refl, sym, _∙_, subst, subst₂}
+use mathlib.Core.Bool.{true}
 use mathlib.Core.List.{List, [], _∷_, _++_}
 use mathlib.Core.Logic.{_≢_, inl, inr, ⊎-elim}
 use native.Mathlib.Decide.{ℕ-discrete}
@@ -10,6 +10,7 @@ use Rattle.meaning.specs.Graph.{Into, edge, Acyclic, Inside, TestingOrder}
 use Rattle.theory.specs.Orders.{Sorted, sorted-from, order-every, order-only, order-exists, order-acyclic}
 
 module _ {W : Type 0} where
+  -- the first where the statement is true, else the second
   abbrev pick : {P : Type 0} → Dec P → W → W → W
   pick (yes p) v w = v
   pick (no q) v w = w
@@ -73,6 +74,7 @@ module _ {W : Type 0} (into : Into) (next : (ℕ → W) → ℕ → W) (reads : 
       kept : (p : ℕ) → edge into p x ≡ true → run next o a′ p ≡ a p
       kept p h = run-other next o a′ p (λ m. so .0 p (inr m) h) ∙ put-other a x (next a x) p (λ f. so .0 p (inl f) h)
 
+  -- a sorted list leads to an assignment that meets the rules at its nodes
   run-meets : (o : List ℕ) → Sorted into o → (a : ℕ → W) (i : ℕ) → In i o → run next o a i ≡ next (run next o a) i
   unfolding run
   run-meets [] so a i m = absurd m
@@ -87,6 +89,7 @@ module _ {W : Type 0} (into : Into) (next : (ℕ → W) → ℕ → W) (reads : 
 module _ {W₁ W₂ : Type 0} (into : Into) (R : ℕ → W₁ → W₂ → Type 0)
     (next₁ : (ℕ → W₁) → ℕ → W₁) (next₂ : (ℕ → W₂) → ℕ → W₂)
     (kept : (i : ℕ) (a : ℕ → W₁) (b : ℕ → W₂) → ((p : ℕ) → edge into p i ≡ true → R p (a p) (b p)) → R i (next₁ a i) (next₂ b i)) where
+  -- the same at the nodes of a sorted list, where the predecessors outside it are related
   related-on : (o : List ℕ) → Sorted into o → (a : ℕ → W₁) (b : ℕ → W₂)
       → ((i : ℕ) → In i o → a i ≡ next₁ a i) → ((i : ℕ) → In i o → b i ≡ next₂ b i)
       → ((p i : ℕ) → In i o → edge into p i ≡ true → (In p o → ⊥) → R p (a p) (b p))
