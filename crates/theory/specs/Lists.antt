@@ -1,6 +1,6 @@
 -- Members of lists: what appending, mapping, joining and keeping do to them, and members by their places.
 use Prim.Native.Nat.{ℕ, zero, suc, _+_, _≤_, _<_}
-use mathlib.Core.Path.{_≡_, refl, sym, _∙_, ap, subst}
+use mathlib.Core.Path.{_≡_, refl, sym, _∙_, ap, ap₂, subst}
 use mathlib.Core.Bool.{Bool, true, false, not, _||_, true≢false, false≢true}
 use mathlib.Core.List.{List, [], _∷_, _++_, map}
 use mathlib.Core.Logic.{_⊎_, inl, inr, ⊎-elim}
@@ -49,6 +49,54 @@ module _ {A B : Type 0} where
   joined-in f b [] h = absurd h
   joined-in f b (x ∷ xs) h =
       ⊎-elim (λ k. (x, inl refl, k)) (λ k. let (a, i, j) = joined-in f b xs k in (a, inr i, j)) (in-cases b (f x) (joined f xs) h)
+
+-- the members that pass a test, and whether some member does
+module _ {A : Type 0} (p : A → Bool) where
+  pub in-keep : (a : A) (xs : List A) → In a xs → p a ≡ true → In a (keep p xs)
+  unfolding keep
+  in-keep a [] h t = h
+  in-keep a (x ∷ xs) h t = go (p x) refl h (λ k. in-keep a xs k t)
+    where
+      go : (b : Bool) → p x ≡ b → In a (x ∷ xs) → (In a xs → In a (keep p xs)) → In a (elim b [ true ↦ x ∷ keep p xs | false ↦ keep p xs ])
+      go true e (inl q) ih = inl q
+      go true e (inr k) ih = inr (ih k)
+      go false e (inl q) ih = absurd (false≢true (sym e ∙ ap p (sym q) ∙ t))
+      go false e (inr k) ih = ih k
+
+  pub keep-in : (a : A) (xs : List A) → In a (keep p xs) → In a xs × (p a ≡ true)
+  unfolding keep
+  keep-in a [] h = absurd h
+  keep-in a (x ∷ xs) h = go (p x) refl h (keep-in a xs)
+    where
+      go : (b : Bool) → p x ≡ b → In a (elim b [ true ↦ x ∷ keep p xs | false ↦ keep p xs ]) → (In a (keep p xs) → In a xs × (p a ≡ true)) → In a (x ∷ xs) × (p a ≡ true)
+      go true e (inl q) ih = (inl q, ap p q ∙ e)
+      go true e (inr k) ih = (inr (ih k .0), ih k .1)
+      go false e k ih = (inr (ih k .0), ih k .1)
+
+  pub in-any : (a : A) (xs : List A) → In a xs → p a ≡ true → any p xs ≡ true
+  unfolding any
+  in-any a [] h t = absurd h
+  in-any a (x ∷ xs) (inl e) t = rw (← e, t)
+  in-any a (x ∷ xs) (inr h) t = go (p x) (in-any a xs h t)
+    where
+      go : (b : Bool) → any p xs ≡ true → b || any p xs ≡ true
+      go true e = refl
+      go false e = e
+
+  pub any-in : (xs : List A) → any p xs ≡ true → (a : A) × In a xs × (p a ≡ true)
+  unfolding any
+  any-in [] t = absurd (false≢true t)
+  any-in (x ∷ xs) t = go (p x) refl t (any-in xs)
+    where
+      go : (b : Bool) → p x ≡ b → b || any p xs ≡ true → (any p xs ≡ true → (a : A) × In a xs × (p a ≡ true)) → (a : A) × In a (x ∷ xs) × (p a ≡ true)
+      go true e t ih = (x, inl refl, e)
+      go false e t ih = let (a, k, q) = ih t in (a, inr k, q)
+
+-- tests that agree on the members
+pub any-same : {A : Type 0} (p q : A → Bool) (xs : List A) → ((a : A) → In a xs → p a ≡ q a) → any p xs ≡ any q xs
+unfolding any
+any-same p q [] h = refl
+any-same p q (x ∷ xs) h = ap₂ _||_ (h x (inl refl)) (any-same p q xs (λ a k. h a (inr k)))
 
 -- tests and statements
 pub is-in : (i : ℕ) (l : List ℕ) → isIn i l ≡ true → In i l
