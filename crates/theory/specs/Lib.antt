@@ -8,6 +8,11 @@ pub mod Systems
 pub mod Sides
 pub mod Polar
 -- The step of a sheet:
+pub mod Values
 pub mod Rules
 pub mod Next
 pub mod Shelter
+-- Cuts and parts, fillings that are alike, and the outlook's list:
+pub mod Cuts
+pub mod Alike
+pub mod Listed

@@ -1,6 +1,6 @@
 -- The rules of a sheet: a rule reads of the after side only the changes at its sources, and holds only of a change that the before side allows.
 use Prim.Native.Nat.{ℕ}
-use mathlib.Core.Path.{_≡_, refl, sym, _∙_, ap, ap₂, subst}
+use mathlib.Core.Path.{_≡_, refl, sym, _∙_, ap, subst}
 use mathlib.Core.Bool.{Bool, true, false, _&&_}
 use mathlib.Core.List.{List, _++_}
 use mathlib.Core.Option.{Option, none, some}
@@ -9,15 +9,16 @@ use lib.Dec.{eqb}
 use lib.ListN.{getD}
 use borrow.Author.Tests.{eqb-true}
 use Rattle.meaning.specs.Text.{In, joined}
-use Rattle.meaning.specs.Kleene.{Kleene, known₃, not₃, and₃, or₃, isTrue}
+use Rattle.meaning.specs.Kleene.{Kleene, known₃, isTrue}
 use Rattle.meaning.specs.Number.{Value, missing}
-use Rattle.meaning.specs.Condition.{Leaf, Cond, And, Item, leavesC, leavesA, leavesI, valueL, valueC, valueA, valueI}
+use Rattle.meaning.specs.Condition.{Leaf, Cond, valueL}
 use Rattle.meaning.specs.Sheet.{Sheet, Sign, plus, minus, Trigger, always, event, rise, fall, Rule, stageOver, leavesOf}
 use Rattle.meaning.specs.Card.{is}
 use Rattle.meaning.specs.Graph.{edge}
 use Rattle.meaning.specs.Dependency.{up, down, both, node, consequent, fromTrigger, fromLeaf, fromHome, sources, rulesFor, allRules, predecessors}
 use Rattle.meaning.specs.Step.{Moment, allowed, triggered, fulfilled, housed, holds, someHolds, changes}
 use Rattle.theory.specs.Lists.{in-left, in-right, in-joined, keep-in, any-in, any-same, in-is}
+use Rattle.theory.specs.Values.{value-same}
 use Rattle.theory.specs.Sides.{allows, changes-up, changes-down, allows-up, allows-down, same-status}
 
 -- WHAT A RULE READS, on two after sides
@@ -63,28 +64,11 @@ module _ (sh : Sheet) (m : Moment) (c d : List Bool) where
   abbrev AtLeaves : List Leaf → Type 0
   AtLeaves xs = (x : Leaf) → In x xs → Agree (fromLeaf x)
 
-  -- and a condition
-  mutual
-    unfolding valueC valueA valueI leavesC leavesA leavesI
-
-    same-cond : (e : Cond) → AtLeaves (leavesC e) → valueC (statusOf c) fieldOf e ≡ valueC (statusOf d) fieldOf e
-    same-cond (Cond.only a) h = same-and a h
-    same-cond (Cond.or a e) h = ap₂ or₃ (same-and a (λ x i. h x (in-left x (leavesA a) (leavesC e) i))) (same-cond e (λ x i. h x (in-right x (leavesA a) (leavesC e) i)))
-
-    same-and : (a : And) → AtLeaves (leavesA a) → valueA (statusOf c) fieldOf a ≡ valueA (statusOf d) fieldOf a
-    same-and (And.just i) h = same-item i h
-    same-and (And.and i a) h = ap₂ and₃ (same-item i (λ x j. h x (in-left x (leavesI i) (leavesA a) j))) (same-and a (λ x j. h x (in-right x (leavesI i) (leavesA a) j)))
-
-    same-item : (i : Item) → AtLeaves (leavesI i) → valueI (statusOf c) fieldOf i ≡ valueI (statusOf d) fieldOf i
-    same-item (Item.leaf x) h = same-leaf x (h x (inl refl))
-    same-item (Item.neg i) h = ap not₃ (same-item i h)
-    same-item (Item.group e) h = same-cond e h
-
-  -- a condition, if any
+  -- and a condition, if any
   same-fulfilled : (e : Option Cond) → AtLeaves (leavesOf e) → fulfilled sh m c e ≡ fulfilled sh m d e
   unfolding fulfilled leavesOf
   same-fulfilled none h = refl
-  same-fulfilled (some e) h = ap isTrue (same-cond e h)
+  same-fulfilled (some e) h = ap isTrue (value-same (statusOf c) (statusOf d) fieldOf fieldOf e (λ x i. same-leaf x (h x i)))
 
   -- a rule answers the same on two sides that show the same changes at its sources
   pub rule-sees : (r : Rule) → ((p : ℕ) → In p (sources sh r) → changes (m .before) c p ≡ changes (m .before) d p) → holds sh m c r ≡ holds sh m d r
