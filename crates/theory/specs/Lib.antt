@@ -16,3 +16,5 @@ pub mod Shelter
 pub mod Cuts
 pub mod Alike
 pub mod Listed
+-- Reading from any line:
+pub mod Shift
