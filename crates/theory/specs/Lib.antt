@@ -1,10 +1,14 @@
 -- Lists:
 pub mod Lists
 pub mod Ascending
--- What was read: a logic of readers and papers, and what holds of names, conditions and sheets:
+-- What was read: a logic of readers and papers, and what holds of names, conditions and sheets, numbers, cards and event lines:
 pub mod Readers
 pub mod Names
 pub mod Spelling
 pub mod Conditions
 pub mod Formed
 pub mod Sheets
+pub mod Entries
+pub mod Counts
+pub mod Cards
+pub mod Papers

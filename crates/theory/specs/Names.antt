@@ -21,6 +21,10 @@ use Rattle.theory.specs.Readers.{Ensures, got-yields, give-ensures, refu
 -- RUNS OF BYTES THAT PASS A TEST
 
 module _ (p : ℕ → Bool) where
+  pub run-more : (x : ℕ) (s : List ℕ) → p x ≡ true → run p (x ∷ s) ≡ suc (run p s)
+  unfolding run
+  run-more x s e = rw (e, run)
+
   -- the longest run passes throughout
   run-taken : (s : List ℕ) → run p (take (run p s) s) ≡ length (take (run p s) s)
   unfolding run

@@ -1,8 +1,8 @@
 -- A small logic of readers and of papers: what holds of whatever a reader gives, and what holds of whatever is taken.
 use Prim.Native.Nat.{ℕ, zero, suc, _+_, _≤_}
-use mathlib.Core.Path.{_≡_, refl, sym, _∙_, ap, subst, subst₂}
+use mathlib.Core.Path.{_≡_, refl, sym, ap, ap₂, subst, subst₂}
 use mathlib.Core.Bool.{Bool, true, false, false≢true}
-use mathlib.Core.List.{List, [], _∷_, _++_}
+use mathlib.Core.List.{List, [], _∷_, _++_, map}
 use mathlib.Core.Logic.{inl, inr}
 use native.Mathlib.Omega.{arith}
 use lib.ListN.{length, length-append}
@@ -43,6 +43,10 @@ pub bind-yields : {A B : Type 0} {P : A → List ℕ → Type 0} {Q : B → List
 bind-yields {x = got a k t} h g = g a k t (h .of a k t refl)
 bind-yields {x = wrong n l} h g = wrong-yields
 
+-- where nothing need be known of what was got before
+pub any-yields : {A B : Type 0} {Q : B → List ℕ → Type 0} {f : A → Reader B} (x : Got A) → ((a : A) (k : ℕ) (t : List ℕ) → Yields (f a k t) Q) → Yields (after x f) Q
+any-yields x g = bind-yields {P = λ a t. Unit {0}} {x = x} (record { of = λ a k t e. tt }) λ a k t u. g a k t
+
 -- WHAT A READER GIVES
 
 -- whatever the reader gives satisfies P
@@ -77,6 +81,9 @@ any-ensures r g = bind-ensures {P = λ a. Unit {0}} {r = r} (record { gives = λ
 pub ensures-weaker : {A : Type 0} {P Q : A → Type 0} {r : Reader A} → ((a : A) → P a → Q a) → Ensures r P → Ensures r Q
 ensures-weaker h g = record { gives = λ l s. record { of = λ a k t e. h a (g .gives l s .of a k t e) } }
 
+pub ensures-both : {A : Type 0} {P Q : A → Type 0} {r : Reader A} → Ensures r P → Ensures r Q → Ensures r (λ a. P a × Q a)
+ensures-both h g = record { gives = λ l s. record { of = λ a k t e. (h .gives l s .of a k t e, g .gives l s .of a k t e) } }
+
 -- A READER FOR EACH MEMBER
 
 -- two lists of one length, whose members at the same places stand in R
@@ -98,6 +105,12 @@ module _ {A B : Type 0} (R : A → B → Type 0) where
   along-in (c ∷ xs) [] h a m = absurd h
   along-in (c ∷ xs) (b ∷ bs) h a (inl e) = (b, inl refl, subst (λ w. R w b) (sym e) (h .0))
   along-in (c ∷ xs) (b ∷ bs) h a (inr m) = let (d, i, r) = along-in xs bs (h .1) a m in (d, inr i, r)
+
+  pub along-map : (f : A → B) → ((a : A) (b : B) → R a b → f a ≡ b) → (xs : List A) (bs : List B) → Along R xs bs → map f xs ≡ bs
+  along-map f g [] [] h = refl
+  along-map f g [] (b ∷ bs) h = absurd h
+  along-map f g (a ∷ xs) [] h = absurd h
+  along-map f g (a ∷ xs) (b ∷ bs) h = ap₂ (λ c r. c ∷ r) (g a b (h .0)) (along-map f g xs bs (h .1))
 
 -- what each reader ensures of its member holds all along
 pub each-along : {A B : Type 0} {R : A → B → Type 0} {r : B → Reader A} → ((b : B) → Ensures (r b) (λ a. R a b)) → (bs : List B) → Ensures (each r bs) (λ xs. Along R xs bs)

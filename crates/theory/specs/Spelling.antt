@@ -7,6 +7,7 @@ use lib.ListN.{length, take, drop, take-append-drop}
 use lib.Dec.{eqb}
 use borrow.Author.Tests.{eqb-true}
 use Rattle.meaning.specs.Text.{text, same, begins, run}
+use Rattle.meaning.specs.Refusal.{NAME}
 use Rattle.meaning.specs.Reading.{Got, got, wrong, Reader, after, give, refuse, choose, demand, notEnded, stands, due, longest, lineEnd}
 use Rattle.meaning.specs.Name.{Name, nameByte, goodName, name, dueName}
 use Rattle.theory.specs.Readers.{Yields, got-yields, wrong-yields, bind-yields, Ensures}
@@ -43,9 +44,8 @@ module _ {A B : Type 0} where
       → Spells [] r v → ((a : A) → Spells (u ++ v a) (f a) w) → Spells u (λ l s. after (r l s) f) w
   bind-spells h g = knowing-spells {P = λ a. Unit {0}} (record { gives = λ l s. record { of = λ a k t e. tt } }) h λ a x. g a
 
-  -- where the first reader passes nothing
-  pub still-spells : {u : List ℕ} {w : B → List ℕ} {r : Reader A} {f : A → Reader B} → Spells [] r (λ a. []) → ((a : A) → Spells u (f a) w) → Spells u (λ l s. after (r l s) f) w
-  still-spells {u} {w} {r} {f} h g = bind-spells h λ a. rw (append-nil u) (g a)
+pub demand-spells : (n : ℕ) (b : Bool) → Spells [] (demand n b) (λ x. [])
+demand-spells n b = choose-spells b (λ e. give-spells refl) (λ e. refuse-spells)
 
 pub notEnded-spells : Spells [] notEnded (λ x. [])
 unfolding notEnded
@@ -97,7 +97,7 @@ unfolding name
 name-spells =
     bind-spells notEnded-spells λ x.
     bind-spells (longest-spells nameByte) λ w.
-    bind-spells (choose-spells (goodName w) (λ e. give-spells refl) (λ e. refuse-spells)) λ y.
+    bind-spells (demand-spells NAME (goodName w)) λ y.
     give-spells (append-nil w)
 
 pub dueName-spells : (n : Name) → Spells [] (dueName n) (λ x. n)
