@@ -130,3 +130,11 @@ endLine-spells n h =
     knowing-spells (demand-ensures LINE (eqb (w .at) (middle + n))) (demand-spells LINE (eqb (w .at) (middle + n))) λ y e.
     bind-spells (lineEnd-spells LINE) λ z.
     paperEnd-spells (rw (append-nil (w .shown), k .shown, means-count (k .minus) (k .ds) (w .at) n (k .means) (eqb-true (w .at) (middle + n) e) h))
+
+-- such a count has one digit or two
+pub decimal-short : (n : ℕ) → n < 100 → length (decimal n) ≤ 2
+decimal-short n h = go (decLt n 10)
+  where
+    go : Dec (n < 10) → length (decimal n) ≤ 2
+    go (yes y) = rw (decimal-one n y) (omega arith)
+    go (no m) = rw (decimal-two n (omega arith) h) (omega arith)

@@ -12,3 +12,6 @@ pub mod Entries
 pub mod Counts
 pub mod Cards
 pub mod Papers
+-- What is written: a card is read back, so a step's result is again accepted; every card read is so written:
+pub mod Accepted
+pub mod Written

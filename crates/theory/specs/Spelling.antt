@@ -44,6 +44,10 @@ module _ {A B : Type 0} where
       → Spells [] r v → ((a : A) → Spells (u ++ v a) (f a) w) → Spells u (λ l s. after (r l s) f) w
   bind-spells h g = knowing-spells {P = λ a. Unit {0}} (record { gives = λ l s. record { of = λ a k t e. tt } }) h λ a x. g a
 
+-- the last reader
+pub behind-spells : {A : Type 0} (u : List ℕ) {v : A → List ℕ} {r : Reader A} → Spells [] r v → Spells u r (λ a. u ++ v a)
+behind-spells u {v} h = record { reads = λ l s. record { of = λ a k t e. ap (λ x. u ++ x) (h .reads l s .of a k t e) ∙ sym (append-assoc u (v a) t) } }
+
 pub demand-spells : (n : ℕ) (b : Bool) → Spells [] (demand n b) (λ x. [])
 demand-spells n b = choose-spells b (λ e. give-spells refl) (λ e. refuse-spells)
 
