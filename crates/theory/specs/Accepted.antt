@@ -1,29 +1,28 @@
 -- A card as it is written is read back. So a step's result is again an accepted card.
-use Prim.Native.Nat.{ℕ, zero, suc, _+_, _*_, _≤_, _<_}
-use mathlib.Core.Path.{_≡_, refl, sym, _∙_, ap, subst}
-use mathlib.Core.Bool.{Bool, true, false, cond}
-use mathlib.Core.List.{List, [], _∷_, _++_, map, append-nil, append-assoc}
-use mathlib.Core.Option.{Option, none, some}
+use Prim.Native.Nat.{ℕ, suc, _+_, _*_, _≤_, _<_}
+use mathlib.Core.Path.{_≡_, refl, sym, _∙_, ap}
+use mathlib.Core.Bool.{Bool, true, false}
+use mathlib.Core.List.{List, [], _∷_, _++_, append-assoc}
+use mathlib.Core.Option.{none}
 use mathlib.Core.Logic.{inl, inr, ⊎-elim}
 use native.Mathlib.Omega.{arith}
 use native.Mathlib.Nat.{suc-mul}
 use lib.ListN.{length, set, length-append, length-map, length-set}
-use lib.Dec.{leb}
 use borrow.Author.Tests.{le-leb}
 use Rattle.meaning.specs.Text.{In, text, begins, run}
-use Rattle.meaning.specs.Refusal.{Answer, taken, LINE}
+use Rattle.meaning.specs.Refusal.{taken}
 use Rattle.meaning.specs.Limits.{cardBytes}
 use Rattle.meaning.specs.Reading.{Reader, got, each, notEnded, stands, due, oneOf, lineEnd, paper}
-use Rattle.meaning.specs.Name.{Name, dueName}
+use Rattle.meaning.specs.Name.{Name}
 use Rattle.meaning.specs.Number.{Entry, endLine, decimal}
 use Rattle.meaning.specs.Sheet.{Sheet, Status, statuses, statusNames}
-use Rattle.meaning.specs.Card.{Card, fieldEntry, statusMark, marks, ended, card, orphan, sheltered, readCard, Put}
+use Rattle.meaning.specs.Card.{fieldEntry, statusMark, ended, card, orphan, readCard, Put}
 use Rattle.meaning.specs.Step.{putIn}
 use Rattle.meaning.specs.Write.{line, lines, mark, cardText}
 use Rattle.meaning.specs.Doors.{Case}
 use Rattle.theory.specs.Lists.{in-cases, map-in, set-in}
 use Rattle.theory.specs.Names.{Good, good-short, dueName-again}
-use Rattle.theory.specs.Formed.{Each, StatusIn, Well}
+use Rattle.theory.specs.Formed.{Each, Well}
 use Rattle.theory.specs.Entries.{Shown, Proper}
 use Rattle.theory.specs.Counts.{endLine-again, decimal-short}
 use Rattle.theory.specs.Cards.{PutIn}

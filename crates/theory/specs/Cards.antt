@@ -1,18 +1,17 @@
 -- Cards and event lines that were read: an entry for each field, a mark for each status, values for the fields that the event carries.
 use Prim.Native.Nat.{ℕ, zero, suc, _+_, _<_}
-use mathlib.Core.Path.{_≡_, refl, _∙_, subst}
-use mathlib.Core.Bool.{Bool}
+use mathlib.Core.Path.{_≡_, refl, _∙_}
 use mathlib.Core.List.{List, [], _∷_, map}
 use mathlib.Core.Logic.{inl, inr}
 use lib.ListN.{length, getD, length-map}
-use Rattle.meaning.specs.Text.{In, text}
+use Rattle.meaning.specs.Text.{text}
 use Rattle.meaning.specs.Refusal.{LINE}
-use Rattle.meaning.specs.Reading.{Reader, each, due, oneOf, lineEnd, paperEnd}
+use Rattle.meaning.specs.Reading.{Reader, due, lineEnd, paperEnd}
 use Rattle.meaning.specs.Name.{Name, dueName}
 use Rattle.meaning.specs.Number.{Entry, endLine}
 use Rattle.meaning.specs.Sheet.{Sheet, Event, Status, statuses, statusNames, eventNames}
 use Rattle.meaning.specs.Card.{Card, fieldEntry, statusMark, ended, card, Put, Happening, carriedBy, put, happening}
-use Rattle.theory.specs.Readers.{Ensures, give-ensures, bind-ensures, any-ensures, ensures-weaker, Along, along-length, along-in, along-map, each-along, each-length}
+use Rattle.theory.specs.Readers.{Ensures, give-ensures, bind-ensures, any-ensures, along-length, along-in, along-map, each-along, each-length}
 use Rattle.theory.specs.Names.{known-below}
 use Rattle.theory.specs.Formed.{Each, EventIn, Well}
 use Rattle.theory.specs.Entries.{Proper, entry-proper}

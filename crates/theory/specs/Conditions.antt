@@ -3,7 +3,7 @@ use Prim.Native.Nat.{ℕ, zero, suc, _+_, _<_}
 use mathlib.Core.Path.{_≡_, refl, sym, subst}
 use mathlib.Core.List.{List, [], _∷_, _++_}
 use mathlib.Core.Option.{Option, none, some}
-use mathlib.Core.Logic.{inl, inr, ⊎-elim}
+use mathlib.Core.Logic.{⊎-elim}
 use lib.ListN.{length}
 use lib.Dec.{ltb}
 use Rattle.meaning.specs.Text.{In, text, find}
@@ -12,7 +12,7 @@ use Rattle.meaning.specs.Limits.{leafLimit, nestLimit}
 use Rattle.meaning.specs.Reading.{Reader, refuse, demand, notEnded, stands, due}
 use Rattle.meaning.specs.Name.{Name, name}
 use Rattle.meaning.specs.Number.{number}
-use Rattle.meaning.specs.Condition.{Leaf, Cond, And, Item, leavesC, leavesA, leavesI}
+use Rattle.meaning.specs.Condition.{Leaf, Item, leavesC, leavesA, leavesI}
 use Rattle.meaning.specs.ReadCondition.{operator, named, readLeaf, readAnd, readCond, itemWith, readItem, condition}
 use Rattle.theory.specs.Lists.{in-cases}
 use Rattle.theory.specs.Readers.{Ensures, give-ensures, refuse-ensures, choose-ensures, bind-ensures, any-ensures}

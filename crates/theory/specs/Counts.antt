@@ -1,23 +1,23 @@
 -- Counts in the line `end=`: a count below 100 is read back as it is written, and whatever is read as that count is so written.
-use Prim.Native.Nat.{ℕ, zero, suc, _+_, _-_, _*_, _/_, _%_, _≤_, _<_}
+use Prim.Native.Nat.{ℕ, suc, _+_, _-_, _*_, _/_, _%_, _≤_, _<_}
 use mathlib.Core.Path.{_≡_, refl, sym, _∙_, ap, ap₂}
-use mathlib.Core.Bool.{Bool, true, false, _&&_, cond}
+use mathlib.Core.Bool.{Bool, true, false, cond}
 use mathlib.Core.List.{List, [], _∷_, _++_, append-nil}
 use mathlib.Core.Option.{Option, none, some, Option·none-ne-some, Option·some-injective}
 use native.Mathlib.Omega.{arith}
 use native.Mathlib.Decide.{decLt}
 use lib.ListN.{length}
-use lib.Dec.{leb, ltb, eqb}
-use borrow.Author.Tests.{leb-true, le-leb, eqb-true, eqb-false, eq-eqb, ne-eqb, lt-ltb, le-ltb}
+use lib.Dec.{eqb}
+use borrow.Author.Tests.{le-leb, eqb-true, eqb-false, eq-eqb, ne-eqb, lt-ltb, le-ltb}
 use Rattle.meaning.specs.Text.{text, run, begins}
 use Rattle.meaning.specs.Refusal.{LINE}
-use Rattle.meaning.specs.Reading.{got, demand, notEnded, stands, due, lineEnd, paperEnd}
+use Rattle.meaning.specs.Reading.{got, notEnded, stands, due, lineEnd, paperEnd}
 use Rattle.meaning.specs.Name.{digit}
-use Rattle.meaning.specs.Number.{middle, amount, inRange, digits, place, Written, number, endLine, writtenIn, decimal}
+use Rattle.meaning.specs.Number.{middle, amount, inRange, digits, place, endLine, writtenIn, decimal}
 use Rattle.theory.specs.Readers.{Yields, got-yields, wrong-yields, demand-ensures}
 use Rattle.theory.specs.Names.{run-more}
-use Rattle.theory.specs.Spelling.{Spells, give-spells, refuse-spells, choose-spells, bind-spells, knowing-spells, demand-spells, due-spells, lineEnd-spells}
-use Rattle.theory.specs.Entries.{Means, Wrote, number-wrote, number-again, number-spells, digit-first, digits-range, place-some}
+use Rattle.theory.specs.Spelling.{Spells, bind-spells, knowing-spells, demand-spells, due-spells, lineEnd-spells}
+use Rattle.theory.specs.Entries.{Means, number-wrote, number-again, number-spells, digit-first, digits-range, place-some}
 
 -- one digit, and two
 written-one : (k n : ℕ) → n < 10 → writtenIn (suc k) n ≡ (48 + n) ∷ []

@@ -1,23 +1,22 @@
 -- Numbers and entries: whatever is read is read back from its own text, which is short, and counts are read back as they are written.
-use Prim.Native.Nat.{ℕ, zero, suc, _+_, _-_, _*_, _/_, _%_, _^_, _≤_, _<_}
-use mathlib.Core.Path.{_≡_, refl, sym, _∙_, ap, ap₂, subst}
-use mathlib.Core.Bool.{Bool, true, false, not, _&&_, _||_, cond, true≢false, false≢true}
-use mathlib.Core.List.{List, [], _∷_, _++_, append-nil, append-assoc}
+use Prim.Native.Nat.{ℕ, suc, _+_, _-_, _*_, _^_, _≤_, _<_}
+use mathlib.Core.Path.{_≡_, refl}
+use mathlib.Core.Bool.{Bool, true, false, _&&_, cond}
+use mathlib.Core.List.{List, [], _∷_, _++_}
 use mathlib.Core.Option.{Option, none, some, Option·none-ne-some, Option·some-injective}
 use native.Mathlib.Omega.{arith}
 use native.Mathlib.Decide.{decLt}
 use native.Mathlib.Nat.{pow-suc, mul-assoc, le-trans, mul-le-mul-left, mul-le-mul, pow-le-pow-right}
-use lib.ListN.{length, length-append}
-use lib.Dec.{leb, ltb, eqb}
-use borrow.Author.Tests.{leb-true, le-leb, eqb-true, eqb-false, eq-eqb, ne-eqb, lt-ltb, le-ltb}
+use lib.ListN.{length}
+use lib.Dec.{leb, eqb}
+use borrow.Author.Tests.{leb-true, eqb-false, ne-eqb}
 use Rattle.meaning.specs.Text.{text, run, begins}
-use Rattle.meaning.specs.Refusal.{LINE, NUMBER}
-use Rattle.meaning.specs.Reading.{Reader, got, give, refuse, demand, choose, notEnded, stands, due, longest, lineEnd, paperEnd}
+use Rattle.meaning.specs.Reading.{got, notEnded, stands}
 use Rattle.meaning.specs.Name.{digit}
-use Rattle.meaning.specs.Number.{middle, amount, inRange, digits, place, Written, judged, number, Value, missing, number-at, Entry, entry, endLine, writtenIn, decimal}
-use Rattle.theory.specs.Readers.{Ensures, give-ensures, refuse-ensures, choose-ensures, demand-ensures, bind-ensures, any-ensures, ensures-weaker, ensures-both}
+use Rattle.meaning.specs.Number.{middle, amount, inRange, digits, place, Written, judged, number, number-at, Entry, entry}
+use Rattle.theory.specs.Readers.{Ensures, give-ensures, refuse-ensures, choose-ensures, bind-ensures, any-ensures, ensures-weaker, ensures-both}
 use Rattle.theory.specs.Names.{longest-full, longest-again}
-use Rattle.theory.specs.Spelling.{Spells, give-spells, refuse-spells, choose-spells, bind-spells, knowing-spells, notEnded-spells, stands-spells, due-spells, lineEnd-spells, longest-spells}
+use Rattle.theory.specs.Spelling.{Spells, give-spells, refuse-spells, choose-spells, bind-spells, notEnded-spells, stands-spells, longest-spells}
 
 -- NUMBERS
 

@@ -1,24 +1,23 @@
 -- Sheets that were read are well formed: names are good and differ, places lie in their tables, no section is over its limit.
 use Prim.Native.Nat.{ℕ, zero, suc, _+_, _-_, _≤_, _<_}
 use mathlib.Core.Path.{_≡_, refl, sym, _∙_, ap, subst}
-use mathlib.Core.Bool.{Bool, true, false, not, _||_, cond, true≢false}
+use mathlib.Core.Bool.{not, _||_, cond, true≢false}
 use mathlib.Core.List.{List, [], _∷_, _++_, map}
 use mathlib.Core.Option.{Option, none, some}
-use mathlib.Core.Logic.{inl, inr, ⊎-elim}
+use mathlib.Core.Logic.{⊎-elim}
 use native.Mathlib.Omega.{arith}
-use lib.ListN.{length, length-append, length-map}
+use lib.ListN.{length, length-map}
 use borrow.Author.Tests.{not-true}
 use Rattle.meaning.specs.Text.{In, text, isIn}
 use Rattle.meaning.specs.Refusal.{LINE, NAME, COND}
 use Rattle.meaning.specs.Limits.{fieldLimit, eventLimit, statusLimit, ruleLimit}
-use Rattle.meaning.specs.Reading.{Reader, demand, stands, due, oneOf, lineEnd}
+use Rattle.meaning.specs.Reading.{demand, stands, oneOf, lineEnd}
 use Rattle.meaning.specs.Name.{Name}
-use Rattle.meaning.specs.Number.{endLine}
 use Rattle.meaning.specs.Sheet.{Sheet, Event, Status, Trigger, always, event, rise, fall, Rule, statuses, statusNames, eventNames, leavesOf, leaves}
-use Rattle.meaning.specs.ReadSheet.{fieldRow, carried, eventRow, status, stageRow, mileRow, signs, trigger, ruleRow, sheet}
+use Rattle.meaning.specs.ReadSheet.{carried, eventRow, status, signs, trigger, ruleRow}
 use Rattle.theory.specs.Lists.{in-cases, in-is}
-use Rattle.theory.specs.Readers.{Ensures, give-ensures, refuse-ensures, choose-ensures, demand-ensures, bind-ensures, any-ensures, ensures-weaker, section-ensures}
-use Rattle.theory.specs.Names.{Good, name-good, newName-new, known-below, Different, different-more}
+use Rattle.theory.specs.Readers.{Ensures, give-ensures, refuse-ensures, choose-ensures, demand-ensures, bind-ensures, any-ensures}
+use Rattle.theory.specs.Names.{Good, newName-new, known-below, Different, different-more}
 use Rattle.theory.specs.Conditions.{LeavesIn, condition-in}
 
 -- WHAT IT IS TO BE WELL FORMED

@@ -1,19 +1,19 @@
 -- Names: whatever is read as a name is a good one, a good one is read back, known names have their places, and new ones differ.
-use Prim.Native.Nat.{ℕ, suc, _+_, _≤_, _<_}
+use Prim.Native.Nat.{ℕ, suc, _≤_, _<_}
 use mathlib.Core.Path.{_≡_, refl, sym, _∙_, ap, ap₂, subst}
 use mathlib.Core.Bool.{Bool, true, false, not, _&&_, _||_, true≢false, false≢true}
 use mathlib.Core.List.{List, [], _∷_, _++_}
 use mathlib.Core.Option.{Option, none, some, Option·none-ne-some, Option·some-injective}
 use mathlib.Core.Logic.{inl, inr, ⊎-elim}
 use native.Mathlib.Omega.{arith}
-use lib.ListN.{length, take, drop}
+use lib.ListN.{length, take}
 use lib.Seq.{take-append-seam, drop-append-seam}
 use lib.Dec.{leb, eqb}
 use borrow.Author.Tests.{leb-true, eqb-true, eq-eqb, not-true}
 use Rattle.meaning.specs.Text.{In, run, same, find, later, among}
 use Rattle.meaning.specs.Refusal.{NAME}
 use Rattle.meaning.specs.Limits.{nameBytes}
-use Rattle.meaning.specs.Reading.{Reader, got, demand, notEnded, longest}
+use Rattle.meaning.specs.Reading.{got, notEnded, longest}
 use Rattle.meaning.specs.Name.{Name, letter, nameByte, reserved, goodName, name, newName, dueName, placed, known}
 use Rattle.theory.specs.Lists.{in-cases}
 use Rattle.theory.specs.Readers.{Ensures, got-yields, give-ensures, refuse-ensures, demand-ensures, bind-ensures, any-ensures}

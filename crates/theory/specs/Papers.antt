@@ -4,12 +4,12 @@ use mathlib.Core.Path.{_≡_, refl}
 use mathlib.Core.List.{List}
 use mathlib.Core.Option.{Option, none, some}
 use lib.ListN.{length}
-use Rattle.meaning.specs.Refusal.{Answer, CYCLE, ORPHAN}
+use Rattle.meaning.specs.Refusal.{CYCLE, ORPHAN}
 use Rattle.meaning.specs.Limits.{sheetBytes, cardBytes, eventBytes}
 use Rattle.meaning.specs.Reading.{paper}
 use Rattle.meaning.specs.Sheet.{Sheet, statuses}
 use Rattle.meaning.specs.ReadSheet.{sheet}
-use Rattle.meaning.specs.Card.{Card, card, orphan, sheltered, readCard, Happening, happening, readEvent}
+use Rattle.meaning.specs.Card.{Card, card, orphan, sheltered, readCard, happening, readEvent}
 use Rattle.meaning.specs.Graph.{Into, TestingOrder, orderFor}
 use Rattle.meaning.specs.Dependency.{nodes, predecessors, testingOrder}
 use Rattle.meaning.specs.Doors.{Accepted, accepted, readSheet, Case, readCase}

@@ -12,7 +12,7 @@ use borrow.Author.Tests.{eqb-true}
 use Rattle.meaning.specs.Text.{In, text, keep, joined}
 use Rattle.meaning.specs.Refusal.{LINE}
 use Rattle.meaning.specs.Limits.{fieldLimit, eventLimit, statusLimit, ruleLimit}
-use Rattle.meaning.specs.Reading.{Reader, due, lineEnd}
+use Rattle.meaning.specs.Reading.{due, lineEnd}
 use Rattle.meaning.specs.Name.{Name}
 use Rattle.meaning.specs.Number.{endLine}
 use Rattle.meaning.specs.Condition.{Leaf}
@@ -23,7 +23,7 @@ use Rattle.meaning.specs.Dependency.{up, down, both, node, consequent, nodes, c
 use Rattle.theory.specs.Lists.{in-cases, joined-in, is-in}
 use Rattle.theory.specs.Readers.{Ensures, give-ensures, bind-ensures, any-ensures, ensures-weaker, section-ensures}
 use Rattle.theory.specs.Names.{Good, name-good, newName-new, Different, different-more}
-use Rattle.theory.specs.Conditions.{LeafIn, LeavesIn}
+use Rattle.theory.specs.Conditions.{LeafIn}
 use Rattle.theory.specs.Formed.{Each, UnderIn, StatusIn, EventIn, TriggerIn, RuleIn, Well, each-more, different-row, under-up, status-up, event-in, status-in, rule-in}
 
 -- SECTION BY SECTION

@@ -1,16 +1,16 @@
 -- Which text was read: a small logic that gathers, piece by piece, the text that a reader has passed.
-use Prim.Native.Nat.{ℕ, suc}
+use Prim.Native.Nat.{ℕ}
 use mathlib.Core.Path.{_≡_, refl, sym, _∙_, ap, ap₂}
 use mathlib.Core.Bool.{Bool, true, false, cond, false≢true}
 use mathlib.Core.List.{List, [], _∷_, _++_, append-nil, append-assoc}
-use lib.ListN.{length, take, drop, take-append-drop}
+use lib.ListN.{length, drop, take-append-drop}
 use lib.Dec.{eqb}
 use borrow.Author.Tests.{eqb-true}
 use Rattle.meaning.specs.Text.{text, same, begins, run}
 use Rattle.meaning.specs.Refusal.{NAME}
 use Rattle.meaning.specs.Reading.{Got, got, wrong, Reader, after, give, refuse, choose, demand, notEnded, stands, due, longest, lineEnd}
 use Rattle.meaning.specs.Name.{Name, nameByte, goodName, name, dueName}
-use Rattle.theory.specs.Readers.{Yields, got-yields, wrong-yields, bind-yields, Ensures}
+use Rattle.theory.specs.Readers.{Yields, got-yields, wrong-yields, Ensures}
 use Rattle.theory.specs.Names.{same-equal}
 
 -- the text u, and behind it what the reader passes where it gives a, are w a

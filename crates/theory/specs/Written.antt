@@ -1,13 +1,12 @@
 -- Every card that is read is the text of what was read.
-use Prim.Native.Nat.{ℕ, _+_, _<_}
+use Prim.Native.Nat.{ℕ, _+_}
 use mathlib.Core.Path.{_≡_, refl, _∙_, ap}
-use mathlib.Core.Bool.{Bool, true, false, cond}
 use mathlib.Core.List.{List, [], _∷_, _++_, append-nil}
 use native.Mathlib.Omega.{arith}
 use lib.ListN.{length, length-map}
 use lib.Dec.{eqb}
 use Rattle.meaning.specs.Text.{text}
-use Rattle.meaning.specs.Refusal.{Answer, taken, LINE}
+use Rattle.meaning.specs.Refusal.{taken, LINE}
 use Rattle.meaning.specs.Limits.{cardBytes}
 use Rattle.meaning.specs.Reading.{Reader, each, demand, due, oneOf, lineEnd, paperEnd, paper}
 use Rattle.meaning.specs.Name.{Name, dueName}
