@@ -15,3 +15,7 @@ pub mod Papers
 -- What is written: a card is read back, so a step's result is again accepted; every card read is so written:
 pub mod Accepted
 pub mod Written
+-- What is refused:
+pub mod Faults
+pub mod Refusals
+pub mod Numbers
