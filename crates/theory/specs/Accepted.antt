@@ -35,10 +35,12 @@ line-parts : (n v t : List ℕ) → line n v ++ t ≡ n ++ (61 ∷ (v ++ 10 ∷ 
 unfolding line
 line-parts n v t = simp append-assoc
 
+-- a field's line
 field-line : (n : Name) (e : Entry) → Good n → Shown e → (l : ℕ) (t : List ℕ) → ended (fieldEntry n) l (line n (e .shown) ++ t) ≡ got e (suc l) t
 unfolding ended fieldEntry due notEnded stands begins run lineEnd
 field-line n e g s l t = rw (line-parts n (e .shown) t, dueName-again n (61 ∷ (e .shown ++ 10 ∷ t)) l g refl, s l t)
 
+-- a status's line
 status-line : (n : Name) (b : Bool) → Good n → (l : ℕ) (t : List ℕ) → ended (statusMark n) l (line n (mark b) ++ t) ≡ got b (suc l) t
 unfolding ended statusMark oneOf due notEnded stands begins run lineEnd
 status-line n true g l t = rw (line-parts n (mark true) t, dueName-again n (61 ∷ (mark true ++ 10 ∷ t)) l g refl)
@@ -58,6 +60,7 @@ lines-again shown r (n ∷ ns) (v ∷ vs) e h l t =
 
 -- THE WHOLE CARD
 
+-- the text of a card, from piece to piece
 card-parts : (m a b n : List ℕ) → line (text "case") m ++ a ++ b ++ line (text "end") n ≡ text "case=" ++ (m ++ 10 ∷ (a ++ (b ++ (text "end=" ++ (n ++ 10 ∷ [])))))
 unfolding line
 card-parts m a b n =
@@ -65,6 +68,7 @@ card-parts m a b n =
     let e = line (text "end") n in
     append-assoc (c ++ a) b e ∙ append-assoc c a (b ++ e) ∙ ap (λ z. text "case=" ++ z) (append-assoc m (10 ∷ []) (a ++ (b ++ e)))
 
+-- a card whose pieces are read
 card-pieces : (sh : Sheet) (es : List Entry) (bs : List Bool) (l i j : ℕ) (a b c : List ℕ) → Good (sh .model)
     → each (λ n. ended (fieldEntry n)) (sh .fields) (suc l) (a ++ (b ++ c)) ≡ got es i (b ++ c)
     → each (λ n. ended (statusMark n)) (statusNames (statuses sh)) i (b ++ c) ≡ got bs j c
@@ -75,10 +79,12 @@ card-pieces sh es bs l i j a b c g p q r = rw (dueName-again (sh .model) (10 ∷
 
 -- HOW LONG A CARD IS
 
+-- a line, its mark and its LF
 line-length : (n v : List ℕ) → length (line n v) ≡ length n + length v + 2
 unfolding line
 line-length n v = omega (arith, length-append (n ++ text "=" ++ v) (text "\n"), length-append (n ++ text "=") v, length-append n (text "="))
 
+-- lines of at most b bytes
 lines-length : {A : Type 0} (shown : A → List ℕ) (b : ℕ) (ns : List Name) (vs : List A)
     → ((n : Name) → In n ns → (v : A) → In v vs → length (line n (shown v)) ≤ b) → length (lines shown ns vs) ≤ length ns * b
 unfolding lines
@@ -88,37 +94,63 @@ lines-length shown b (n ∷ ns) (v ∷ vs) h =
     let i = lines-length shown b ns vs (λ m i w j. h m (inr i) w (inr j)) in
     omega (arith, i, h n (inl refl) v (inl refl), suc-mul (length ns) b, length-append (line n (shown v)) (lines shown ns vs))
 
+-- four texts in a row
 four-length : (a b c d : List ℕ) → length (a ++ b ++ c ++ d) ≡ length a + length b + length c + length d
 four-length a b c d = omega (arith, length-append (a ++ b ++ c) d, length-append (a ++ b) c, length-append a b)
 
+-- a mark is short
 mark-length : (b : Bool) → length (mark b) ≤ 3
 mark-length true = omega arith
 mark-length false = omega arith
 
 -- what is known of a sheet whose cards are written
 module _ (sh : Sheet) (well : Well sh) where
+  -- the names of the statuses are good
   names-good : Each Good (statusNames (statuses sh))
   unfolding statusNames statuses
   names-good n i =
       let (s, j, e) = map-in (λ (s : Status). s .name) n (sh .stages ++ sh .miles) i in
       rw e (⊎-elim (λ k. well .stages s k .name) (λ k. well .miles s k .name) (in-cases s (sh .stages) (sh .miles) j))
 
+  -- and as many as the statuses
   names-length : length (statusNames (statuses sh)) ≡ length (statuses sh)
   unfolding statusNames
   names-length = length-map (statuses sh) (λ (s : Status). s .name)
 
   module _ (es : List Entry) (bs : List Bool) (entries : length es ≡ length (sh .fields)) (marked : length bs ≡ length (statuses sh)) (proper : Each Proper es) where
+    -- the lines of the fields
+    fields-length : length (lines (λ (e : Entry). e .shown) (sh .fields) es) ≤ length (sh .fields) * 25
+    fields-length = lines-length (λ (e : Entry). e .shown) 25 (sh .fields) es
+        (λ m i e j. omega (arith, line-length m (e .shown), good-short m (well .fields m i), proper e j .short))
+
+    -- the lines of the statuses
+    marks-length : length (lines mark (statusNames (statuses sh)) bs) ≤ length (statusNames (statuses sh)) * 17
+    marks-length = lines-length mark 17 (statusNames (statuses sh)) bs
+        (λ m i b j. omega (arith, line-length m (mark b), good-short m (names-good m i), mark-length b))
+
+    -- there are few
+    count-small : length es + length bs < 100
+    count-small = omega (arith, well .fields-few, well .statuses-few)
+
+    -- 18 + 16 * 25 + 32 * 17 + 7
     pub card-length : length (cardText sh es bs) ≤ 969
     unfolding cardText
     card-length =
         let n = length es + length bs in
-        let u : n < 100 = omega (arith, well .fields-few, well .statuses-few) in
-        let f : length (lines (λ (e : Entry). e .shown) (sh .fields) es) ≤ length (sh .fields) * 25 = lines-length (λ (e : Entry). e .shown) 25 (sh .fields) es
-        (λ m i e j. omega (arith, line-length m (e .shown), good-short m (well .fields m i), proper e j .short)) in
-        let g : length (lines mark (statusNames (statuses sh)) bs) ≤ length (statusNames (statuses sh)) * 17 = lines-length mark 17 (statusNames (statuses sh)) bs
-        (λ m i b j. omega (arith, line-length m (mark b), good-short m (names-good m i), mark-length b)) in
-        let q = four-length (line (text "case") (sh .model)) (lines (λ (e : Entry). e .shown) (sh .fields) es) (lines mark (statusNames (statuses sh)) bs) (line (text "end") (decimal n)) in
-        omega (arith, f, g, q, line-length (text "case") (sh .model), line-length (text "end") (decimal n), good-short (sh .model) (well .model), decimal-short n u, names-length, well .fields-few, well .statuses-few)
+        let c = line (text "case") (sh .model) in
+        let e = line (text "end") (decimal n) in
+        let q = four-length c (lines (λ (e : Entry). e .shown) (sh .fields) es) (lines mark (statusNames (statuses sh)) bs) e in
+        let m = good-short (sh .model) (well .model) in
+        let k = decimal-short n count-small in
+        omega (arith, fields-length, marks-length, q, line-length (text "case") (sh .model), line-length (text "end") (decimal n), m, k, names-length, well .fields-few, well .statuses-few)
+
+    -- the lines of the fields are read back
+    fields-again : (l : ℕ) (t : List ℕ) → (k : ℕ) × (each (λ m. ended (fieldEntry m)) (sh .fields) l (lines (λ (e : Entry). e .shown) (sh .fields) es ++ t) ≡ got es k t)
+    fields-again = lines-again (λ (e : Entry). e .shown) (λ m. ended (fieldEntry m)) (sh .fields) es entries (λ m x e y. field-line m e (well .fields m x) (proper e y .shown))
+
+    -- the lines of the statuses are read back
+    marks-again : (l : ℕ) (t : List ℕ) → (k : ℕ) × (each (λ m. ended (statusMark m)) (statusNames (statuses sh)) l (lines mark (statusNames (statuses sh)) bs ++ t) ≡ got bs k t)
+    marks-again = lines-again mark (λ m. ended (statusMark m)) (statusNames (statuses sh)) bs (marked ∙ sym names-length) (λ m x v y. status-line m v (names-good m x))
 
     -- the card is read back
     card-lines : (l : ℕ) → (k : ℕ) × (card sh l (cardText sh es bs) ≡ got (record { entries = es; statuses = bs }) k [])
@@ -128,15 +160,12 @@ module _ (sh : Sheet) (well : Well sh) where
         let a = lines (λ (e : Entry). e .shown) (sh .fields) es in
         let b = lines mark (statusNames (statuses sh)) bs in
         let c = text "end=" ++ (decimal n ++ 10 ∷ []) in
-        let (i, p) = lines-again (λ (e : Entry). e .shown) (λ m. ended (fieldEntry m)) (sh .fields) es entries
-        (λ m x e y. field-line m e (well .fields m x) (proper e y .shown)) (suc l) (b ++ c) in
-        let (j, q) = lines-again mark (λ m. ended (statusMark m)) (statusNames (statuses sh)) bs (marked ∙ sym names-length)
-        (λ m x v y. status-line m v (names-good m x)) i c in (
-          suc j,
-          rw (card-parts (sh .model) a b (decimal n)) (card-pieces sh es bs l i j a b c (well .model) p q
-              (endLine-again n j (omega (arith, well .fields-few, well .statuses-few)))),
-        )
+        let (i, p) = fields-again (suc l) (b ++ c) in
+        let (j, q) = marks-again i c in
+        let r = card-pieces sh es bs l i j a b c (well .model) p q (endLine-again n j count-small) in
+        (suc j, rw (card-parts (sh .model) a b (decimal n)) r)
 
+    -- a card as it is written is taken, where no stage is an orphan
     pub card-again : orphan bs 0 (sh .stages) ≡ none → readCard sh (cardText sh es bs) ≡ taken (record { entries = es; statuses = bs })
     unfolding readCard paper
     card-again o =
@@ -145,11 +174,13 @@ module _ (sh : Sheet) (well : Well sh) where
 
 -- A STEP'S RESULT
 
+-- as many entries as before
 put-length : (ps : List Put) (es : List Entry) → length (putIn ps es) ≡ length es
 unfolding putIn
 put-length [] es = refl
 put-length (p ∷ ps) es = put-length ps (set es (p .field) (p .entry)) ∙ length-set es (p .field) (p .entry)
 
+-- each as it is read
 put-proper : (m : ℕ) (ps : List Put) (es : List Entry) → Each (PutIn m) ps → Each Proper es → Each Proper (putIn ps es)
 unfolding putIn
 put-proper m [] es h g = g

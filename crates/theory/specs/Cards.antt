@@ -22,6 +22,7 @@ pub record CardIn (sh : Sheet) (c : Card) : Type 0 where
   pub proper : Each Proper (c .entries)
   pub marked : length (c .statuses) ≡ length (statuses sh)
 
+-- the entry of a field
 field-proper : (n : Name) → Ensures (fieldEntry n) Proper
 unfolding fieldEntry
 field-proper n =
@@ -29,6 +30,7 @@ field-proper n =
     any-ensures (due LINE (text "=")) λ _.
     entry-proper
 
+-- of a whole line
 ended-ensures : {A : Type 0} {P : A → Type 0} {r : Reader A} → Ensures r P → Ensures (ended r) P
 unfolding ended
 ended-ensures h =
@@ -62,6 +64,7 @@ pub record HappeningIn (sh : Sheet) (h : Happening) : Type 0 where
   pub puts : Each (PutIn (length (sh .fields))) (h .puts)
   pub carried : map (λ p. p .field) (h .puts) ≡ carriedBy sh (h .event)
 
+-- what is put into the field f
 put-proper : (sh : Sheet) (f : ℕ) → Ensures (put sh f) (λ p. (p .field ≡ f) × Proper (p .entry))
 unfolding put
 put-proper sh f =
@@ -69,6 +72,7 @@ put-proper sh f =
     bind-ensures (field-proper (getD (sh .fields) f [])) λ e h.
     give-ensures (refl, h)
 
+-- the fields that the event at a place carries
 carries-in : (m : ℕ) (es : List Event) → Each (EventIn m) es → (i : ℕ) → Each (λ f. f < m) (getD es i (record { name = []; carries = [] }) .carries)
 carries-in m [] h i = λ f j. absurd j
 carries-in m (e ∷ es) h zero = h e (inl refl) .carries

@@ -23,19 +23,24 @@ abbrev pub LeafIn : ℕ → ℕ → Leaf → Type 0
 LeafIn n m (Leaf.status x) = x < n
 LeafIn n m (Leaf.compare c) = c .field < m
 
+-- of a list of leaves
 abbrev pub LeavesIn : ℕ → ℕ → List Leaf → Type 0
 LeavesIn n m xs = (x : Leaf) → In x xs → LeafIn n m x
 
+-- one leaf
 leaves-one : (n m : ℕ) (x : Leaf) → LeafIn n m x → LeavesIn n m (x ∷ [])
 leaves-one n m x h y i = ⊎-elim (λ e. subst (LeafIn n m) (sym e) h) absurd i
 
+-- two lists of leaves
 leaves-both : (n m : ℕ) (xs ys : List Leaf) → LeavesIn n m xs → LeavesIn n m ys → LeavesIn n m (xs ++ ys)
 leaves-both n m xs ys h g x i = ⊎-elim (h x) (g x) (in-cases x xs ys i)
 
 module _ (sts fields : List Name) where
+  -- leaves in the tables of these names
   abbrev Sound : List Leaf → Type 0
   Sound xs = LeavesIn (length sts) (length fields) xs
 
+  -- whatever is read as a leaf, and so on up to items and conditions
   leaf-sound : (l : ℕ) → Ensures (readLeaf sts fields l) (LeafIn (length sts) (length fields))
   unfolding readLeaf
   leaf-sound l = any-ensures name λ w. go w (find w sts) refl (find w fields) refl
@@ -51,6 +56,7 @@ module _ (sts fields : List Name) where
           give-ensures (find-below w fields f r)
       go w none q none r = refuse-ensures
 
+  -- an and-list of such items
   and-sound : (item : ℕ → Reader Item) → ((l : ℕ) → Ensures (item l) (λ i. Sound (leavesI i))) → (m l : ℕ) → Ensures (readAnd item m l) (λ a. Sound (leavesA a))
   unfolding readAnd leavesA
   and-sound item h zero l = refuse-ensures
@@ -61,6 +67,7 @@ module _ (sts fields : List Name) where
       (bind-ensures (and-sound item h m (l + length (leavesI i))) λ a ha. give-ensures (leaves-both (length sts) (length fields) (leavesI i) (leavesA a) hi ha))
       (give-ensures hi)
 
+  -- a condition of such items
   cond-sound : (item : ℕ → Reader Item) → ((l : ℕ) → Ensures (item l) (λ i. Sound (leavesI i))) → (m l : ℕ) → Ensures (readCond item m l) (λ c. Sound (leavesC c))
   unfolding readCond leavesC
   cond-sound item h zero l = refuse-ensures
@@ -71,6 +78,7 @@ module _ (sts fields : List Name) where
       (bind-ensures (cond-sound item h m (l + length (leavesA a))) λ c hc. give-ensures (leaves-both (length sts) (length fields) (leavesA a) (leavesC c) ha hc))
       (give-ensures ha)
 
+  -- an item, over what stands behind `not ` and `(`
   with-sound : (negated grouped : Reader Item) (l : ℕ) → Ensures negated (λ i. Sound (leavesI i)) → Ensures grouped (λ i. Sound (leavesI i))
       → Ensures (itemWith sts fields negated grouped l) (λ i. Sound (leavesI i))
   unfolding itemWith leavesI
@@ -81,6 +89,7 @@ module _ (sts fields : List Name) where
       choose-ensures opens g (bind-ensures (leaf-sound l) λ x hx.
       give-ensures (leaves-one (length sts) (length fields) x hx)))
 
+  -- an item of any depth
   item-sound : (d l : ℕ) → Ensures (readItem sts fields d l) (λ i. Sound (leavesI i))
   unfolding readItem leavesI
   item-sound zero l = with-sound (refuse COND) (refuse COND) l refuse-ensures refuse-ensures

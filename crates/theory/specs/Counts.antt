@@ -24,21 +24,26 @@ written-one : (k n : ℕ) → n < 10 → writtenIn (suc k) n ≡ (48 + n) ∷ []
 unfolding writtenIn
 written-one k n h = rw (lt-ltb n 10 h, writtenIn)
 
+-- a digit behind others
 written-more : (k n : ℕ) → 10 ≤ n → writtenIn (suc k) n ≡ writtenIn k (n / 10) ++ ((48 + n % 10) ∷ [])
 unfolding writtenIn
 written-more k n h = rw (le-ltb n 10 h, writtenIn)
 
+-- a count of one digit
 decimal-one : (n : ℕ) → n < 10 → decimal n ≡ (48 + n) ∷ []
 unfolding decimal
 decimal-one n h = written-one 9 n h
 
+-- a count of two digits
 decimal-two : (n : ℕ) → 10 ≤ n → n < 100 → decimal n ≡ (48 + n / 10) ∷ (48 + n % 10) ∷ []
 unfolding decimal
 decimal-two n h g = written-more 9 n h ∙ ap (λ w. w ++ ((48 + n % 10) ∷ [])) (written-one 8 (n / 10) (omega arith))
 
+-- a byte in the range of the digits
 digit-true : (d : ℕ) → 48 ≤ d → d ≤ 57 → digit d ≡ true
 digit-true d h g = rw (le-leb 48 d h, le-leb d 57 g)
 
+-- a digit in front makes the run longer by one
 digit-more : (d : ℕ) (s : List ℕ) → 48 ≤ d → d ≤ 57 → run digit (d ∷ s) ≡ suc (run digit s)
 digit-more d s h g = run-more digit d s (digit-true d h g)
 
@@ -69,6 +74,7 @@ unfolding amount
 amount-grows [] v = omega arith
 amount-grows (d ∷ ds) v = omega (arith, amount-grows ds (v * 10 + (d - 48)))
 
+-- digits whose value is the count
 digits-count : (ds : List ℕ) (n : ℕ) → run digit ds ≡ length ds → digits ds ≡ some n → n < 100 → ds ≡ decimal n
 unfolding digits amount run
 digits-count [] n f h g = absurd (Option·none-ne-some n h)
@@ -92,6 +98,7 @@ digits-count (d ∷ e ∷ c ∷ ds) n f h g =
     let s = amount-grows ds (((0 * 10 + (d - 48)) * 10 + (e - 48)) * 10 + (c - 48)) in
     absurd (omega (arith, b .0, p, r, s))
 
+-- a number with a minus is below 0
 minus-below : (x v : ℕ) → place true (some x) ≡ some v → v < middle
 unfolding place
 minus-below x v p = go (eqb x 0) refl p
@@ -100,10 +107,12 @@ minus-below x v p = go (eqb x 0) refl p
     go true q p = absurd (Option·none-ne-some v p)
     go false q p = let i = Option·some-injective (middle - x) v p in omega (arith, i, eqb-false x 0 q)
 
+-- one without is not
 plus-above : (x v : ℕ) → place false (some x) ≡ some v → middle + x ≡ v
 unfolding place
 plus-above x v p = Option·some-injective (middle + x) v p
 
+-- a number whose place is that of the count
 means-count : (minus : Bool) (ds : List ℕ) (v n : ℕ) → Means minus ds v → v ≡ middle + n → n < 100 → cond minus (text "-") [] ++ ds ≡ decimal n
 means-count minus ds v n m e g = let (x, q) = place-some minus (digits ds) v (m .place) in go minus x q (m .place)
   where
@@ -113,6 +122,7 @@ means-count minus ds v n m e g = let (x, q) = place-some minus (digits ds) v (m 
         let i : x ≡ n = omega (arith, plus-above x v (rw q at p)) in
         digits-count ds n (m .full) (q ∙ ap {B = Option ℕ} some i) g
 
+-- nothing stands behind the last line
 paperEnd-spells : {u w : List ℕ} → u ≡ w → Spells u paperEnd (λ x. w)
 unfolding paperEnd
 paperEnd-spells {u} {w} e = record { reads = λ l s. go l s }

@@ -32,6 +32,7 @@ pub record Wrote (n : Written) : Type 0 where
   pub means : Means minus ds (n .at)
   pub shown : n .shown ≡ cond minus (text "-") [] ++ ds
 
+-- whatever is read as a number is so written
 pub number-wrote : Ensures number Wrote
 unfolding number
 number-wrote =
@@ -44,6 +45,7 @@ number-wrote =
     go minus ds full none e = refuse-ensures
     go minus ds full (some v) e = give-ensures (record { minus = minus; ds = ds; means = record { full = full; place = e }; shown = refl })
 
+-- the first of some digits is a digit
 pub digit-first : (d : ℕ) (ds : List ℕ) → run digit (d ∷ ds) ≡ suc (length ds) → (48 ≤ d) × (d ≤ 57)
 unfolding run
 digit-first d ds h = go (leb 48 d) refl (leb d 57) refl h
@@ -68,6 +70,7 @@ number-again false (d ∷ ds) v t l h g =
     let b = digit-first d ds (h .full) in
     rw (begins-other 45 d (ds ++ t) (λ e. omega (arith, b .0)), longest-again digit (d ∷ ds) t l (h .full) g, h .place)
 
+-- the text of a number
 pub number-spells : Spells [] number (λ n. n .shown)
 unfolding number
 number-spells =
@@ -101,6 +104,7 @@ digits-range d e ds v h = go (eqb d 48) refl (leb (amount 0 (d ∷ e ∷ ds)) mi
     go false p false q h = absurd (Option·none-ne-some v h)
     go false p true q h = (eqb-false d 48 p, leb-true (amount 0 (d ∷ e ∷ ds)) middle q, Option·some-injective (amount 0 (d ∷ e ∷ ds)) v h)
 
+-- digits that have a value are at most ten
 digits-short : (ds : List ℕ) (v : ℕ) → run digit ds ≡ length ds → digits ds ≡ some v → length ds ≤ 10
 unfolding amount
 digits-short [] v f h = omega arith
@@ -124,6 +128,7 @@ digits-short (d ∷ e ∷ ds) v f h = go (decLt 9 (length (e ∷ ds)))
 abbrev pub Shown : Entry → Type 0
 Shown e = (l : ℕ) (t : List ℕ) → entry l (e .shown ++ 10 ∷ t) ≡ got e l (10 ∷ t)
 
+-- an entry that is a number
 number-shown : (minus : Bool) (ds : List ℕ) (v : ℕ) → Means minus ds v → Shown (record { shown = cond minus (text "-") [] ++ ds; value = number-at v })
 unfolding entry notEnded stands begins digits place run
 number-shown true ds v h l t = rw (number-again true ds v (10 ∷ t) l h refl)
@@ -132,6 +137,7 @@ number-shown false (d ∷ ds) v h l t =
     let b = digit-first d ds (h .full) in
     rw (begins-other 63 d (ds ++ 10 ∷ t) (λ e. omega (arith, b .1)), number-again false (d ∷ ds) v (10 ∷ t) l h refl)
 
+-- whatever is read as an entry
 pub entry-shown : Ensures entry Shown
 unfolding entry notEnded stands begins
 entry-shown =
@@ -148,6 +154,7 @@ place-some false none v e = absurd (Option·none-ne-some v e)
 place-some true (some x) v e = (x, refl)
 place-some false (some x) v e = (x, refl)
 
+-- with the minus
 minus-short : (minus : Bool) (ds : List ℕ) → length ds ≤ 10 → length (cond minus (text "-") [] ++ ds) ≤ 11
 minus-short true ds h = omega arith
 minus-short false ds h = omega arith
@@ -167,9 +174,11 @@ pub record Proper (e : Entry) : Type 0 where
   pub shown : Shown e
   pub short : length (e .shown) ≤ 11
 
+-- whatever is read as an entry is proper
 pub entry-proper : Ensures entry Proper
 entry-proper = ensures-weaker (λ e h. record { shown = h .0; short = h .1 }) (ensures-both entry-shown entry-short)
 
+-- the text of an entry
 pub entry-spells : Spells [] entry (λ e. e .shown)
 unfolding entry
 entry-spells =

@@ -22,10 +22,12 @@ pub record Refuses {A : Type 0} (r : Reader A) : Type 0 where
   pub number : (l : ℕ) (s : List ℕ) (n k : ℕ) → r l s ≡ wrong n k → Fault n
 
 module _ {A : Type 0} where
+  -- a refusal, not a value
   abbrev isWrong : Got A → Bool
   isWrong (got a l s) = false
   isWrong (wrong n l) = true
 
+  -- a refusal's number
   abbrev numberIn : Got A → ℕ
   numberIn (got a l s) = 0
   numberIn (wrong n l) = n
@@ -34,12 +36,15 @@ module _ {A : Type 0} where
   gives-refuses : {r : Reader A} → ((l : ℕ) (s : List ℕ) → isWrong (r l s) ≡ false) → Refuses r
   gives-refuses h = record { number = λ l s n k e. absurd (true≢false (sym (ap isWrong e) ∙ h l s)) }
 
+  -- what only gives
   pub give-refuses : {a : A} → Refuses (give a)
   give-refuses = gives-refuses λ l s. refl
 
+  -- a refusal with such a number
   pub refuse-refuses : {n : ℕ} → Fault n → Refuses {A = A} (refuse n)
   refuse-refuses h = record { number = λ l s n k e. subst Fault (ap numberIn e) h }
 
+  -- the one reader or the other
   pub choose-refuses : {r t : Reader A} (b : Bool) → Refuses r → Refuses t → Refuses (choose b r t)
   choose-refuses true h g = h
   choose-refuses false h g = g
@@ -52,6 +57,7 @@ bind-refuses {A} {B} {r} {f} h g = record { number = λ l s n k e. go l s n k (r
     go l s n k (got a i t) q e = g a .number i t n k e
     go l s n k (wrong m i) q e = subst Fault (ap numberIn e) (h .number l s m i q)
 
+-- the five numbers
 pub line-fault : Fault LINE
 line-fault = (omega arith, omega arith)
 
@@ -69,9 +75,11 @@ full-fault = (omega arith, omega arith)
 
 -- PIECES
 
+-- a demand
 pub demand-refuses : {n : ℕ} (b : Bool) → Fault n → Refuses (demand n b)
 demand-refuses b h = choose-refuses b give-refuses (refuse-refuses h)
 
+-- the end of the paper
 pub notEnded-refuses : Refuses notEnded
 unfolding notEnded
 notEnded-refuses = record { number = λ l s n k e. go l s n k e }
@@ -80,6 +88,7 @@ notEnded-refuses = record { number = λ l s n k e. go l s n k e }
     go l [] n k e = subst Fault (ap numberIn e) line-fault
     go l (x ∷ s) n k e = absurd (false≢true (ap isWrong e))
 
+-- bytes behind the end
 pub paperEnd-refuses : Refuses paperEnd
 unfolding paperEnd
 paperEnd-refuses = record { number = λ l s n k e. go l s n k e }
@@ -88,6 +97,7 @@ paperEnd-refuses = record { number = λ l s n k e. go l s n k e }
     go l [] n k e = absurd (false≢true (ap isWrong e))
     go l (x ∷ s) n k e = subst Fault (ap numberIn e) line-fault
 
+-- never
 pub stands-refuses : (w : List ℕ) → Refuses (stands w)
 unfolding stands
 stands-refuses w = gives-refuses λ l s. go l s (begins w s)
@@ -96,10 +106,12 @@ stands-refuses w = gives-refuses λ l s. go l s (begins w s)
     go l s true = refl
     go l s false = refl
 
+-- never
 longest-refuses : (p : ℕ → Bool) → Refuses (longest p)
 unfolding longest
 longest-refuses p = gives-refuses λ l s. refl
 
+-- a text due
 pub due-refuses : {n : ℕ} (w : List ℕ) → Fault n → Refuses (due n w)
 unfolding due
 due-refuses w h =
@@ -107,6 +119,7 @@ due-refuses w h =
     bind-refuses (stands-refuses w) λ b.
     demand-refuses b h
 
+-- one of some texts
 pub oneOf-refuses : {A : Type 0} {n : ℕ} (ws : List (Word A)) → Fault n → Refuses (oneOf n ws)
 unfolding oneOf
 oneOf-refuses [] h = refuse-refuses h
@@ -114,12 +127,14 @@ oneOf-refuses (w ∷ ws) h =
     bind-refuses (stands-refuses (w .spelled)) λ b.
     choose-refuses b give-refuses (oneOf-refuses ws h)
 
+-- an LF
 pub lineEnd-refuses : {n : ℕ} → Fault n → Refuses (lineEnd n)
 unfolding lineEnd
 lineEnd-refuses h =
     bind-refuses (due-refuses (text "\n") h) λ _.
     gives-refuses λ l s. refl
 
+-- a reader for each member
 pub each-refuses : {A B : Type 0} {r : B → Reader A} → ((b : B) → Refuses (r b)) → (bs : List B) → Refuses (each r bs)
 unfolding each
 each-refuses h [] = give-refuses
@@ -130,6 +145,7 @@ each-refuses h (b ∷ bs) =
 
 -- NAMES AND NUMBERS
 
+-- a name
 pub name-refuses : Refuses name
 unfolding name
 name-refuses =
@@ -138,6 +154,7 @@ name-refuses =
     bind-refuses (demand-refuses (goodName w) name-fault) λ _.
     give-refuses
 
+-- a new name
 pub newName-refuses : (used : List Name) → Refuses (newName used)
 unfolding newName
 newName-refuses used =
@@ -145,12 +162,14 @@ newName-refuses used =
     bind-refuses (demand-refuses (not (among w used)) name-fault) λ _.
     give-refuses
 
+-- the name due
 pub dueName-refuses : (n : Name) → Refuses (dueName n)
 unfolding dueName
 dueName-refuses n =
     bind-refuses name-refuses λ w.
     demand-refuses (same w n) name-fault
 
+-- a known name
 pub known-refuses : (ns : List Name) → Refuses (known ns)
 unfolding known
 known-refuses ns = bind-refuses name-refuses λ w. go (find w ns)
@@ -159,6 +178,7 @@ known-refuses ns = bind-refuses name-refuses λ w. go (find w ns)
     go none = refuse-refuses name-fault
     go (some i) = give-refuses
 
+-- a number
 pub number-refuses : Refuses number
 unfolding number
 number-refuses =
@@ -171,6 +191,7 @@ number-refuses =
     go minus ds none = refuse-refuses number-fault
     go minus ds (some v) = give-refuses
 
+-- an entry
 pub entry-refuses : Refuses entry
 unfolding entry
 entry-refuses =
@@ -178,6 +199,7 @@ entry-refuses =
     bind-refuses (stands-refuses (text "?")) λ asked.
     choose-refuses asked give-refuses (bind-refuses number-refuses λ n. give-refuses)
 
+-- the line `end=`
 pub endLine-refuses : (n : ℕ) → Refuses (endLine n)
 unfolding endLine
 endLine-refuses n =

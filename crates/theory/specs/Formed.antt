@@ -31,6 +31,7 @@ abbrev pub UnderIn : ℕ → Option ℕ → Type 0
 UnderIn k none = Unit {0}
 UnderIn k (some p) = p < k
 
+-- a stage or a mile, over k stages
 pub record StatusIn (k : ℕ) (s : Status) : Type 0 where
   pub name : Good (s .name)
   pub under : UnderIn k (s .under)
@@ -54,6 +55,7 @@ pub record RuleIn (n m v : ℕ) (r : Rule) : Type 0 where
   pub trigger : TriggerIn n v (r .trigger)
   pub leaves : LeavesIn n m (leavesOf (r .condition))
 
+-- a sheet that is well formed
 pub record Well (sh : Sheet) : Type 0 where
   pub model : Good (sh .model)
   pub fields : Each Good (sh .fields)
@@ -70,9 +72,11 @@ pub record Well (sh : Sheet) : Type 0 where
 
 -- ONE ROW MORE
 
+-- of a list with one more
 pub each-more : {A : Type 0} (P : A → Type 0) (so : List A) (a : A) → Each P so → P a → Each P (so ++ (a ∷ []))
 each-more P so a h g x m = ⊎-elim (h x) (λ i. ⊎-elim (λ q. subst P (sym q) g) absurd i) (in-cases x so (a ∷ []) m)
 
+-- the names of a list with one more
 names-more : {A : Type 0} (f : A → Name) (used : List Name) (so : List A) (a : A) → used ++ map f (so ++ (a ∷ [])) ≡ used ++ map f so ++ (f a ∷ [])
 names-more f [] [] a = refl
 names-more f [] (x ∷ so) a = ap (λ r. f x ∷ r) (names-more f [] so a)
@@ -83,15 +87,18 @@ pub different-row : {A : Type 0} (f : A → Name) (used : List Name) (so : List 
     → Different (used ++ map f so) → (In (f a) (used ++ map f so) → ⊥) → Different (used ++ map f (so ++ (a ∷ [])))
 different-row f used so a d h = rw (names-more f used so a) (different-more (used ++ map f so) (f a) d h)
 
+-- more stages
 pub under-up : (j k : ℕ) (u : Option ℕ) → j ≤ k → UnderIn j u → UnderIn k u
 under-up j k none h g = tt
 under-up j k (some p) h g = omega arith
 
+-- a status over more stages
 pub status-up : (j k : ℕ) (s : Status) → j ≤ k → StatusIn j s → StatusIn k s
 status-up j k s h g = record { name = g .name; under = under-up j k (s .under) h (g .under) }
 
 -- ROWS
 
+-- the fields that an event carries
 pub carried-in : (fields : List Name) (m : ℕ) (so : List ℕ) → Each (λ f. f < length fields) so → Different so
     → Ensures (carried fields m so) (λ fs. Each (λ f. f < length fields) fs × Different fs)
 unfolding carried
@@ -105,6 +112,7 @@ carried-in fields (suc m) so h d =
     (different-more so f d (λ i. true≢false (sym (in-is f so i) ∙ not-true (isIn f so) g))))
     (give-ensures (h, d))
 
+-- an event line, with a new name
 pub event-in : (fields : List Name) (so : List Event) → Ensures (eventRow fields so) (λ e. EventIn (length fields) e × (In (e .name) (fields ++ eventNames so) → ⊥))
 unfolding eventRow
 event-in fields so =
@@ -126,6 +134,7 @@ status-in used stages =
     give-ensures (record { name = g .0; under = u }, g .1)
 
 module _ (fields events sts : List Name) where
+  -- a trigger
   trigger-in : Ensures (trigger fields events sts) (TriggerIn (length sts) (length events))
   unfolding trigger
   trigger-in =
@@ -133,6 +142,7 @@ module _ (fields events sts : List Name) where
       choose-ensures rises (bind-ensures (known-below sts) λ x h. give-ensures h) (any-ensures (stands (text "-")) λ falls.
       choose-ensures falls (bind-ensures (known-below sts) λ x h. give-ensures h) (bind-ensures (known-below events) λ e h. give-ensures h))
 
+  -- a rule line
   pub rule-in : (so : List Rule) → Ensures (ruleRow fields events sts so) (RuleIn (length sts) (length fields) (length events))
   unfolding ruleRow leavesOf
   rule-in so =

@@ -8,6 +8,7 @@ pub mod Spelling
 pub mod Conditions
 pub mod Formed
 pub mod Sheets
+pub mod Edges
 pub mod Entries
 pub mod Counts
 pub mod Cards
@@ -15,7 +16,7 @@ pub mod Papers
 -- What is written: a card is read back, so a step's result is again accepted; every card read is so written:
 pub mod Accepted
 pub mod Written
--- What is refused:
+-- What is refused, and with which number:
 pub mod Faults
 pub mod Refusals
 pub mod Numbers

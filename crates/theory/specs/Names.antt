@@ -21,6 +21,7 @@ use Rattle.theory.specs.Readers.{Ensures, got-yields, give-ensures, refu
 -- RUNS OF BYTES THAT PASS A TEST
 
 module _ (p : ℕ → Bool) where
+  -- a byte that passes makes the run longer by one
   pub run-more : (x : ℕ) (s : List ℕ) → p x ≡ true → run p (x ∷ s) ≡ suc (run p s)
   unfolding run
   run-more x s e = rw (e, run)
@@ -47,10 +48,12 @@ module _ (p : ℕ → Bool) where
       go true h ih = ap suc (ih (omega arith))
       go false h ih = h
 
+  -- whatever is read as the longest run passes throughout
   pub longest-full : Ensures (longest p) (λ w. run p w ≡ length w)
   unfolding longest
   longest-full = record { gives = λ l s. got-yields (run-taken s) }
 
+  -- a text that passes throughout is read back where none follows
   pub longest-again : (w t : List ℕ) (l : ℕ) → run p w ≡ length w → run p t ≡ 0 → longest p l (w ++ t) ≡ got w l t
   unfolding longest
   longest-again w t l h g = rw (run-stops w t h g, take-append-seam w t, drop-append-seam w t)
@@ -62,6 +65,7 @@ pub record Good (w : Name) : Type 0 where
   pub good : goodName w ≡ true
   pub plain : run nameByte w ≡ length w
 
+-- a good name has at most 12 bytes
 pub good-short : (w : Name) → Good w → length w ≤ nameBytes
 unfolding goodName
 good-short [] h = absurd (false≢true (h .good))
@@ -72,6 +76,7 @@ good-short (x ∷ w) h = leb-true (suc (length w)) nameBytes (go (letter x) (leb
     go true false c e = e
     go false b c e = absurd (false≢true e)
 
+-- whatever is read as a name is good
 pub name-good : Ensures name Good
 unfolding name
 name-good =
@@ -88,11 +93,13 @@ name-again (x ∷ w) t l h g = rw (longest-again nameByte (x ∷ w) t l (h .plai
 
 -- THE SAME NAME
 
+-- every text is the same as itself
 pub same-self : (w : List ℕ) → same w w ≡ true
 unfolding same
 same-self [] = refl
 same-self (x ∷ w) = rw (eq-eqb x x refl, same) (same-self w)
 
+-- texts that are the same are equal
 pub same-equal : (v w : List ℕ) → same v w ≡ true → v ≡ w
 unfolding same
 same-equal [] [] e = refl
@@ -116,10 +123,12 @@ abbrev pub Different : {A : Type 0} → List A → Type 0
 Different [] = Unit {0}
 Different (x ∷ xs) = (In x xs → ⊥) × Different xs
 
+-- one more that is not yet there
 pub different-more : {A : Type 0} (xs : List A) (a : A) → Different xs → (In a xs → ⊥) → Different (xs ++ (a ∷ []))
 different-more [] a d h = (λ m. m, tt)
 different-more (x ∷ xs) a d h = (λ m. ⊎-elim (d .0) (⊎-elim (λ e. h (inl (sym e))) absurd) (in-cases x xs (a ∷ []) m), different-more xs a (d .1) (λ m. h (inr m)))
 
+-- a name that is not among others is none of them
 among-in : (w : Name) (ws : List Name) → among w ws ≡ false → In w ws → ⊥
 unfolding among
 among-in w [] e m = m
@@ -130,6 +139,7 @@ among-in w (v ∷ ws) e m = go (same w v) refl e m (among-in w ws)
     go false q e (inl f) ih = false≢true (sym q ∙ subst (λ u. same w u ≡ true) f (same-self w))
     go false q e (inr m) ih = ih e m
 
+-- whatever is read as a new name is good and none of those in use
 pub newName-new : (used : List Name) → Ensures (newName used) (λ w. Good w × (In w used → ⊥))
 unfolding newName
 newName-new used =
@@ -151,6 +161,7 @@ find-below w (n ∷ ns) i e = go (same w n) e (find-below w ns)
     go true e ih = let z = Option·some-injective 0 i e in omega arith
     go false e ih = more (find w ns) refl e ih
 
+-- whatever is read as a known name is a place in the table
 pub known-below : (ns : List Name) → Ensures (known ns) (λ i. i < length ns)
 unfolding known
 known-below ns = any-ensures name λ w. go w (find w ns) refl

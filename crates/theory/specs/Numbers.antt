@@ -1,48 +1,113 @@
 -- The numbers of refusals: each paper has its own, a step is refused with 1 to 9 and never with MANY, an outlook with 1 to 10.
-use Prim.Native.Nat.{ℕ, _≤_}
+use Prim.Native.Nat.{ℕ, _+_, _≤_}
 use mathlib.Core.Path.{_≡_, refl, ap, subst₂}
 use mathlib.Core.Bool.{Bool, true, false, cond, false≢true}
-use mathlib.Core.List.{List}
+use mathlib.Core.List.{List, []}
 use mathlib.Core.Option.{Option, none, some}
 use native.Mathlib.Omega.{arith}
-use lib.ListN.{length}
+use lib.ListN.{length, getD}
 use lib.Dec.{leb}
+use Rattle.meaning.specs.Text.{text}
 use Rattle.meaning.specs.Refusal.{Answer, taken, refused, onTaken, LONG, ROOM, MANY}
 use Rattle.meaning.specs.Limits.{sheetBytes, cardBytes, eventBytes}
 use Rattle.meaning.specs.Reading.{Got, got, wrong, Reader, choose, answered, paper}
-use Rattle.meaning.specs.Sheet.{Sheet}
+use Rattle.meaning.specs.Name.{Name}
+use Rattle.meaning.specs.Sheet.{Sheet, statuses, statusNames, eventNames}
 use Rattle.meaning.specs.ReadSheet.{sheet}
-use Rattle.meaning.specs.Card.{Card, card, orphan, sheltered, readCard, happening, readEvent}
+use Rattle.meaning.specs.Card.{Card, fieldEntry, marks, statusMark, ended, card, orphan, sheltered, readCard, carriedBy, put, happening, readEvent}
 use Rattle.meaning.specs.Dependency.{testingOrder}
 use Rattle.meaning.specs.Step.{moment}
 use Rattle.meaning.specs.Outlook.{many, patterns}
 use Rattle.meaning.specs.Doors.{accepted, readSheet, Case, readCase, next, outlook, fitting, stepAnswer, outlookAnswer}
-use Rattle.theory.specs.Faults.{Refuses}
-use Rattle.theory.specs.Refusals.{sheet-refuses, card-refuses, happening-refuses}
+use Rattle.theory.specs.Faults.{Refuses, give-refuses, bind-refuses, line-fault, paperEnd-refuses, due-refuses, oneOf-refuses, lineEnd-refuses, each-refuses, dueName-refuses, known-refuses, entry-refuses, endLine-refuses}
+use Rattle.theory.specs.Refusals.{sheet-refuses}
+
+-- THE CARD AND THE EVENT LINE
+
+-- a field's line
+entry-line-refuses : (n : Name) → Refuses (fieldEntry n)
+unfolding fieldEntry
+entry-line-refuses n =
+    bind-refuses (dueName-refuses n) λ _.
+    bind-refuses (due-refuses (text "=") line-fault) λ _.
+    entry-refuses
+
+-- a status's line
+mark-line-refuses : (n : Name) → Refuses (statusMark n)
+unfolding statusMark
+mark-line-refuses n =
+    bind-refuses (dueName-refuses n) λ _.
+    bind-refuses (due-refuses (text "=") line-fault) λ _.
+    oneOf-refuses marks line-fault
+
+-- a whole line
+ended-refuses : {A : Type 0} {r : Reader A} → Refuses r → Refuses (ended r)
+unfolding ended
+ended-refuses h =
+    bind-refuses h λ a.
+    bind-refuses (lineEnd-refuses line-fault) λ _.
+    give-refuses
+
+-- the card
+pub card-refuses : (sh : Sheet) → Refuses (card sh)
+unfolding card
+card-refuses sh =
+    bind-refuses (due-refuses (text "case=") line-fault) λ _.
+    bind-refuses (ended-refuses (dueName-refuses (sh .model))) λ _.
+    bind-refuses (each-refuses (λ n. ended-refuses (entry-line-refuses n)) (sh .fields)) λ es.
+    bind-refuses (each-refuses (λ n. ended-refuses (mark-line-refuses n)) (statusNames (statuses sh))) λ ss.
+    bind-refuses (endLine-refuses (length es + length ss)) λ _.
+    give-refuses
+
+-- what is put into a field
+put-refuses : (sh : Sheet) (f : ℕ) → Refuses (put sh f)
+unfolding put
+put-refuses sh f =
+    bind-refuses (due-refuses (text " ") line-fault) λ _.
+    bind-refuses (entry-line-refuses (getD (sh .fields) f [])) λ e.
+    give-refuses
+
+-- the event line
+pub happening-refuses : (sh : Sheet) → Refuses (happening sh)
+unfolding happening
+happening-refuses sh =
+    bind-refuses (known-refuses (eventNames (sh .events))) λ i.
+    bind-refuses (each-refuses (put-refuses sh) (carriedBy sh i)) λ ps.
+    bind-refuses (lineEnd-refuses line-fault) λ _.
+    bind-refuses paperEnd-refuses λ _.
+    give-refuses
+
+-- WHOLE PAPERS AND REQUESTS
 
 -- whatever number and paper a refusal names satisfy P
 pub record Tells {A : Type 0} (x : Answer A) (P : ℕ → ℕ → Type 0) : Type 0 where
   pub told : (n p l : ℕ) → x ≡ refused n p l → P n p
 
 module _ {A : Type 0} where
+  -- refused, not taken
   abbrev isRefused : Answer A → Bool
   isRefused (taken a) = false
   isRefused (refused n p l) = true
 
+  -- a refusal's number
   abbrev numberOf : Answer A → ℕ
   numberOf (taken a) = 0
   numberOf (refused n p l) = n
 
+  -- a refusal's paper
   abbrev paperOf : Answer A → ℕ
   paperOf (taken a) = 0
   paperOf (refused n p l) = p
 
+  -- what is taken tells nothing
   taken-tells : {P : ℕ → ℕ → Type 0} {a : A} → Tells (taken a) P
   taken-tells = record { told = λ n p l e. absurd (false≢true (ap isRefused e)) }
 
+  -- of a refusal
   refused-tells : {P : ℕ → ℕ → Type 0} {n p l : ℕ} → P n p → Tells {A = A} (refused n p l) P
   refused-tells {P} h = record { told = λ n p l e. subst₂ P (ap numberOf e) (ap paperOf e) h }
 
+  -- in a weaker form
   tells-weaker : {P Q : ℕ → ℕ → Type 0} {x : Answer A} → ((n p : ℕ) → P n p → Q n p) → Tells x P → Tells x Q
   tells-weaker h g = record { told = λ n p l e. h n p (g .told n p l e) }
 
@@ -96,6 +161,7 @@ case-tells s c e =
     on-tells (readEvent (a .sheet) e) (tells-weaker (λ n p h. omega (arith, h .0, h .1, h .2)) (event-tells (a .sheet) e)) λ v.
     taken-tells
 
+-- ROOM
 fitting-tells : {A : Type 0} {P : ℕ → ℕ → Type 0} (out : A → List ℕ) (room : ℕ) (a : A) → P ROOM 0 → Tells (fitting out room a) P
 unfolding fitting
 fitting-tells {A} {P} out room a h = go (leb (length (out a)) room)
@@ -111,6 +177,7 @@ step-tells s c e room =
     on-tells (readCase s c e) (tells-weaker (λ n p h. omega (arith, h .0, h .1, h .3)) (case-tells s c e)) λ k.
     fitting-tells (λ n. n .card) room (next k) (omega arith)
 
+-- an outlook may
 pub outlook-tells : (s c e : List ℕ) (room : ℕ) → Tells (outlookAnswer s c e room) (λ n p. (1 ≤ n) × (n ≤ 10) × (p ≤ 3))
 unfolding outlookAnswer outlook
 outlook-tells s c e room =

@@ -19,6 +19,7 @@ use Rattle.theory.specs.Entries.{Proper}
 use Rattle.theory.specs.Sheets.{sheet-well}
 use Rattle.theory.specs.Cards.{CardIn, card-marked, HappeningIn, happening-in}
 
+-- what holds of a case that was taken
 pub record Papers (k : Case) : Type 0 where
   pub well : Well (k .sheet)
   pub order : TestingOrder (nodes (k .sheet)) (predecessors (k .sheet)) (k .order)
@@ -42,15 +43,18 @@ card-holds sh s = on-holds (CardIn sh) P (paper 2 cardBytes (card sh) s) _
     go c h none q = taken-holds P c (h, q)
     go c h (some x) q = λ a e. absurd (refused-taken ORPHAN 2 (2 + length (sh .fields) + x) a e)
 
+-- an event line that is taken
 pub event-holds : (sh : Sheet) (s : List ℕ) → Well sh → Holds (readEvent sh s) (HappeningIn sh)
 unfolding readEvent
 event-holds sh s w = paper-holds (HappeningIn sh) 3 eventBytes (happening sh) s (happening-in sh w)
 
 -- where the order taken for a graph is a testing order of it
 module _ (testing : (n : ℕ) (into : Into) (o : List ℕ) → orderFor n into ≡ some o → TestingOrder n into o) where
+  -- a well formed sheet with a testing order
   abbrev Sheeted : Accepted → Type 0
   Sheeted a = Well (a .sheet) × TestingOrder (nodes (a .sheet)) (predecessors (a .sheet)) (a .order)
 
+  -- a sheet that is taken
   pub sheet-holds : (s : List ℕ) → Holds (readSheet s) (λ a. Well (a .sheet) × TestingOrder (nodes (a .sheet)) (predecessors (a .sheet)) (a .order))
   unfolding readSheet testingOrder
   sheet-holds s = on-holds Well Sheeted (paper 1 sheetBytes sheet s) _
@@ -60,6 +64,7 @@ module _ (testing : (n : ℕ) (into : Into) (o : List ℕ) → orderFor n into �
       go sh w none q = λ a e. absurd (refused-taken CYCLE 1 0 a e)
       go sh w (some o) q = taken-holds Sheeted (record { sheet = sh; order = o }) (w, testing (nodes sh) (predecessors sh) o q)
 
+  -- three papers that are taken
   pub case-holds : (s c e : List ℕ) → Holds (readCase s c e) Papers
   unfolding readCase
   case-holds s c e =

@@ -19,21 +19,26 @@ pub record Yields {A : Type 0} (x : Got A) (P : A → List ℕ → Type 0) : Typ
   pub of : (a : A) (k : ℕ) (t : List ℕ) → x ≡ got a k t → P a t
 
 module _ {A : Type 0} where
+  -- a value, not a refusal
   abbrev isGot : Got A → Bool
   isGot (got a l s) = true
   isGot (wrong n l) = false
 
+  -- the value, or d
   abbrev valueOr : A → Got A → A
   valueOr d (got a l s) = a
   valueOr d (wrong n l) = d
 
+  -- the rest behind a value
   abbrev restOf : Got A → List ℕ
   restOf (got a l s) = s
   restOf (wrong n l) = []
 
+  -- a value and its rest
   pub got-yields : {P : A → List ℕ → Type 0} {a : A} {l : ℕ} {s : List ℕ} → P a s → Yields (got a l s) P
   got-yields {P} {a} {l} {s} h = record { of = λ b k t e. subst₂ P (ap (valueOr a) e) (ap restOf e) h }
 
+  -- of a refusal there is nothing to show
   pub wrong-yields : {P : A → List ℕ → Type 0} {n l : ℕ} → Yields (wrong n l) P
   wrong-yields = record { of = λ a k t e. absurd (false≢true (ap isGot e)) }
 
@@ -54,16 +59,20 @@ pub record Ensures {A : Type 0} (r : Reader A) (P : A → Type 0) : Type 0 where
   pub gives : (l : ℕ) (s : List ℕ) → Yields (r l s) (λ a t. P a)
 
 module _ {A : Type 0} where
+  -- what is given
   pub give-ensures : {P : A → Type 0} {a : A} → P a → Ensures (give a) P
   give-ensures h = record { gives = λ l s. got-yields h }
 
+  -- a refusal gives nothing
   pub refuse-ensures : {P : A → Type 0} {n : ℕ} → Ensures (refuse n) P
   refuse-ensures = record { gives = λ l s. wrong-yields }
 
+  -- both readers ensure it
   pub choose-ensures : {P : A → Type 0} {r t : Reader A} (b : Bool) → Ensures r P → Ensures t P → Ensures (choose b r t) P
   choose-ensures true h g = h
   choose-ensures false h g = g
 
+-- behind a demand its test has passed
 pub demand-ensures : (n : ℕ) (b : Bool) → Ensures (demand n b) (λ u. b ≡ true)
 demand-ensures n true = give-ensures refl
 demand-ensures n false = refuse-ensures
@@ -81,6 +90,7 @@ any-ensures r g = bind-ensures {P = λ a. Unit {0}} {r = r} (record { gives = λ
 pub ensures-weaker : {A : Type 0} {P Q : A → Type 0} {r : Reader A} → ((a : A) → P a → Q a) → Ensures r P → Ensures r Q
 ensures-weaker h g = record { gives = λ l s. record { of = λ a k t e. h a (g .gives l s .of a k t e) } }
 
+-- two things ensured at once
 pub ensures-both : {A : Type 0} {P Q : A → Type 0} {r : Reader A} → Ensures r P → Ensures r Q → Ensures r (λ a. P a × Q a)
 ensures-both h g = record { gives = λ l s. record { of = λ a k t e. (h .gives l s .of a k t e, g .gives l s .of a k t e) } }
 
@@ -94,18 +104,21 @@ Along R (a ∷ xs) [] = ⊥
 Along R (a ∷ xs) (b ∷ bs) = R a b × Along R xs bs
 
 module _ {A B : Type 0} (R : A → B → Type 0) where
+  -- they are equally long
   pub along-length : (xs : List A) (bs : List B) → Along R xs bs → length xs ≡ length bs
   along-length [] [] h = refl
   along-length [] (b ∷ bs) h = absurd h
   along-length (a ∷ xs) [] h = absurd h
   along-length (a ∷ xs) (b ∷ bs) h = ap suc (along-length xs bs (h .1))
 
+  -- each member of the first has its fellow in the second
   pub along-in : (xs : List A) (bs : List B) → Along R xs bs → (a : A) → In a xs → (b : B) × In b bs × R a b
   along-in [] bs h a m = absurd m
   along-in (c ∷ xs) [] h a m = absurd h
   along-in (c ∷ xs) (b ∷ bs) h a (inl e) = (b, inl refl, subst (λ w. R w b) (sym e) (h .0))
   along-in (c ∷ xs) (b ∷ bs) h a (inr m) = let (d, i, r) = along-in xs bs (h .1) a m in (d, inr i, r)
 
+  -- where R says that f leads from the one to the other
   pub along-map : (f : A → B) → ((a : A) (b : B) → R a b → f a ≡ b) → (xs : List A) (bs : List B) → Along R xs bs → map f xs ≡ bs
   along-map f g [] [] h = refl
   along-map f g [] (b ∷ bs) h = absurd h
@@ -150,10 +163,12 @@ abbrev pub Holds : {A : Type 0} → Answer A → (A → Type 0) → Type 0
 Holds {A} x P = (a : A) → x ≡ taken a → P a
 
 module _ {A : Type 0} where
+  -- taken, not refused
   abbrev isTaken : Answer A → Bool
   isTaken (taken a) = true
   isTaken (refused n p l) = false
 
+  -- what was taken, or d
   abbrev takenOr : A → Answer A → A
   takenOr d (taken a) = a
   takenOr d (refused n p l) = d
@@ -162,9 +177,11 @@ module _ {A : Type 0} where
   pub refused-taken : (n p l : ℕ) (a : A) → refused n p l ≡ taken a → ⊥
   refused-taken n p l a e = false≢true (ap isTaken e)
 
+  -- what is taken is one thing
   pub taken-same : (a b : A) → taken a ≡ taken b → a ≡ b
   taken-same a b e = ap (takenOr a) e
 
+  -- of what is taken
   pub taken-holds : (P : A → Type 0) (a : A) → P a → Holds (taken a) P
   taken-holds P a h b e = subst P (taken-same a b e) h
 
@@ -183,9 +200,11 @@ module _ {A : Type 0} where
       fits true q e = (q, seen (r 1 s) e)
       fits false q e = absurd (refused-taken 1 p 0 a e)
 
+  -- of a whole paper
   pub paper-holds : (P : A → Type 0) (p limit : ℕ) (r : Reader A) (s : List ℕ) → Ensures r P → Holds (paper p limit r s) P
   paper-holds P p limit r s h a e = let (q, (k, t, g)) = paper-read p limit r s a e in h .gives 1 s .of a k t g
 
+-- of what is asked next
 pub on-holds : {A B : Type 0} (P : A → Type 0) (Q : B → Type 0) (x : Answer A) (f : A → Answer B)
     → Holds x P → ((a : A) → P a → Holds (f a) Q) → Holds (onTaken x f) Q
 on-holds P Q (taken a) f h g b e = g a (h a refl) b e

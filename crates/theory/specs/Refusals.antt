@@ -1,9 +1,9 @@
--- Conditions, rows and papers: the readers of the sheet, of the card and of the event line refuse with a number from 2 to 6.
+-- Faults of conditions and of the sheet: their readers refuse with a number from 2 to 6.
 use Prim.Native.Nat.{ℕ, zero, suc, _+_, _-_}
 use mathlib.Core.Bool.{Bool, true, false, not, _||_, cond}
 use mathlib.Core.List.{List, [], _∷_, _++_}
 use mathlib.Core.Option.{Option, none, some}
-use lib.ListN.{length, getD}
+use lib.ListN.{length}
 use lib.Dec.{ltb}
 use Rattle.meaning.specs.Text.{text, isIn, find}
 use Rattle.meaning.specs.Limits.{fieldLimit, eventLimit, statusLimit, ruleLimit, leafLimit, nestLimit}
@@ -11,17 +11,18 @@ use Rattle.meaning.specs.Reading.{Reader}
 use Rattle.meaning.specs.Name.{Name}
 use Rattle.meaning.specs.Condition.{Item, leavesA, leavesI}
 use Rattle.meaning.specs.ReadCondition.{operator, readAnd, readCond, named, readLeaf, itemWith, readItem, condition}
-use Rattle.meaning.specs.Sheet.{Sheet, Event, Status, Rule, statuses, statusNames, eventNames, leaves}
+use Rattle.meaning.specs.Sheet.{Event, Status, Rule, statusNames, eventNames, leaves}
 use Rattle.meaning.specs.ReadSheet.{section, fieldRow, carried, eventRow, status, stageRow, mileRow, signs, trigger, ruleRow, sheet}
-use Rattle.meaning.specs.Card.{fieldEntry, marks, statusMark, ended, card, carriedBy, put, happening}
-use Rattle.theory.specs.Faults.{Fault, Refuses, give-refuses, refuse-refuses, choose-refuses, bind-refuses, line-fault, name-fault, cond-fault, full-fault, demand-refuses, notEnded-refuses, paperEnd-refuses, stands-refuses, due-refuses, oneOf-refuses, lineEnd-refuses, each-refuses, name-refuses, newName-refuses, dueName-refuses, known-refuses, number-refuses, entry-refuses, endLine-refuses}
+use Rattle.theory.specs.Faults.{Fault, Refuses, give-refuses, refuse-refuses, choose-refuses, bind-refuses, line-fault, name-fault, cond-fault, full-fault, demand-refuses, notEnded-refuses, stands-refuses, due-refuses, oneOf-refuses, lineEnd-refuses, name-refuses, newName-refuses, known-refuses, number-refuses, endLine-refuses}
 
 -- CONDITIONS
 
+-- an operator
 operator-refuses : Refuses operator
 unfolding operator
 operator-refuses = bind-refuses notEnded-refuses λ _. oneOf-refuses _ cond-fault
 
+-- an and-list of items
 and-refuses : (item : ℕ → Reader Item) → ((l : ℕ) → Refuses (item l)) → (m l : ℕ) → Refuses (readAnd item m l)
 unfolding readAnd
 and-refuses item h zero l = refuse-refuses cond-fault
@@ -30,6 +31,7 @@ and-refuses item h (suc m) l =
     bind-refuses (stands-refuses (text " and ")) λ more.
     choose-refuses more (bind-refuses (and-refuses item h m (l + length (leavesI i))) λ a. give-refuses) give-refuses
 
+-- a condition of items
 cond-refuses : (item : ℕ → Reader Item) → ((l : ℕ) → Refuses (item l)) → (m l : ℕ) → Refuses (readCond item m l)
 unfolding readCond
 cond-refuses item h zero l = refuse-refuses cond-fault
@@ -38,6 +40,7 @@ cond-refuses item h (suc m) l =
     bind-refuses (stands-refuses (text " or ")) λ more.
     choose-refuses more (bind-refuses (cond-refuses item h m (l + length (leavesA a))) λ c. give-refuses) give-refuses
 
+-- what a name stands for
 named-refuses : (l : ℕ) (x f : Option ℕ) → Refuses (named l x f)
 named-refuses l (some x) f = bind-refuses (demand-refuses (ltb l leafLimit) full-fault) λ _. give-refuses
 named-refuses l none (some f) =
@@ -48,10 +51,12 @@ named-refuses l none (some f) =
 named-refuses l none none = refuse-refuses name-fault
 
 module _ (sts fields : List Name) where
+  -- a leaf
   leaf-refuses : (l : ℕ) → Refuses (readLeaf sts fields l)
   unfolding readLeaf
   leaf-refuses l = bind-refuses name-refuses λ w. named-refuses l (find w sts) (find w fields)
 
+  -- an item, over what stands behind `not ` and `(`
   with-refuses : (negated grouped : Reader Item) (l : ℕ) → Refuses negated → Refuses grouped → Refuses (itemWith sts fields negated grouped l)
   unfolding itemWith
   with-refuses negated grouped l h g =
@@ -60,6 +65,7 @@ module _ (sts fields : List Name) where
       choose-refuses nots h (bind-refuses (stands-refuses (text "(")) λ opens.
       choose-refuses opens g (bind-refuses (leaf-refuses l) λ x. give-refuses))
 
+  -- an item of any depth
   item-refuses : (d l : ℕ) → Refuses (readItem sts fields d l)
   unfolding readItem
   item-refuses zero l = with-refuses _ _ l (refuse-refuses cond-fault) (refuse-refuses cond-fault)
@@ -69,12 +75,14 @@ module _ (sts fields : List Name) where
       bind-refuses (due-refuses (text ")") cond-fault) λ _.
       give-refuses)
 
+  -- a whole condition
   condition-refuses : (l : ℕ) → Refuses (condition sts fields l)
   unfolding condition
   condition-refuses l = cond-refuses (readItem sts fields nestLimit) (item-refuses nestLimit) (suc leafLimit) l
 
 -- ROWS OF THE SHEET
 
+-- a section
 section-refuses : {A : Type 0} (key : List ℕ) (row : List A → Reader A) → ((so : List A) → Refuses (row so)) → (room : ℕ) (so : List A) → Refuses (section key row room so)
 unfolding section
 section-refuses key row h zero so =
@@ -84,6 +92,7 @@ section-refuses key row h (suc room) so =
     bind-refuses (stands-refuses key) λ more.
     choose-refuses more (bind-refuses (h so) λ a. section-refuses key row h room (so ++ (a ∷ []))) give-refuses
 
+-- a field line
 field-refuses : (so : List Name) → Refuses (fieldRow so)
 unfolding fieldRow
 field-refuses so =
@@ -91,6 +100,7 @@ field-refuses so =
     bind-refuses (lineEnd-refuses line-fault) λ _.
     give-refuses
 
+-- the fields that an event carries
 carried-refuses : (fields : List Name) (m : ℕ) (so : List ℕ) → Refuses (carried fields m so)
 unfolding carried
 carried-refuses fields zero so = refuse-refuses name-fault
@@ -102,6 +112,7 @@ carried-refuses fields (suc m) so =
     carried-refuses fields m (so ++ (f ∷ [])))
     give-refuses
 
+-- an event line of the sheet
 event-refuses : (fields : List Name) (so : List Event) → Refuses (eventRow fields so)
 unfolding eventRow
 event-refuses fields so =
@@ -110,6 +121,7 @@ event-refuses fields so =
     bind-refuses (lineEnd-refuses line-fault) λ _.
     give-refuses
 
+-- a stage or mile line
 status-refuses : (used : List Name) (stages : List Status) → Refuses (status used stages)
 unfolding status
 status-refuses used stages =
@@ -120,6 +132,7 @@ status-refuses used stages =
     give-refuses
 
 module _ (fields events sts : List Name) where
+  -- a trigger
   trigger-refuses : Refuses (trigger fields events sts)
   unfolding trigger
   trigger-refuses =
@@ -127,10 +140,12 @@ module _ (fields events sts : List Name) where
       choose-refuses rises (bind-refuses (known-refuses sts) λ x. give-refuses) (bind-refuses (stands-refuses (text "-")) λ falls.
       choose-refuses falls (bind-refuses (known-refuses sts) λ x. give-refuses) (bind-refuses (known-refuses events) λ e. give-refuses))
 
+  -- the LF of a rule line
   ending-fault : (asks : Bool) → Fault (cond asks 5 2)
   ending-fault true = cond-fault
   ending-fault false = line-fault
 
+  -- a rule line
   rule-refuses : (so : List Rule) → Refuses (ruleRow fields events sts so)
   unfolding ruleRow
   rule-refuses so =
@@ -144,8 +159,9 @@ module _ (fields events sts : List Name) where
       bind-refuses (lineEnd-refuses (ending-fault asks)) λ _.
       give-refuses
 
--- THE THREE READERS
+-- THE SHEET
 
+-- all sections
 pub sheet-refuses : Refuses sheet
 unfolding sheet stageRow mileRow
 sheet-refuses =
@@ -158,51 +174,4 @@ sheet-refuses =
     bind-refuses (section-refuses (text "mile=") (mileRow (fields ++ eventNames events) stages) (λ so. status-refuses (fields ++ eventNames events ++ statusNames stages ++ statusNames so) stages) (statusLimit - length stages) []) λ miles.
     bind-refuses (section-refuses (text "rule=") (ruleRow fields (eventNames events) (statusNames (stages ++ miles))) (rule-refuses fields (eventNames events) (statusNames (stages ++ miles))) ruleLimit []) λ rules.
     bind-refuses (endLine-refuses (length rules)) λ _.
-    give-refuses
-
-entry-line-refuses : (n : Name) → Refuses (fieldEntry n)
-unfolding fieldEntry
-entry-line-refuses n =
-    bind-refuses (dueName-refuses n) λ _.
-    bind-refuses (due-refuses (text "=") line-fault) λ _.
-    entry-refuses
-
-mark-line-refuses : (n : Name) → Refuses (statusMark n)
-unfolding statusMark
-mark-line-refuses n =
-    bind-refuses (dueName-refuses n) λ _.
-    bind-refuses (due-refuses (text "=") line-fault) λ _.
-    oneOf-refuses marks line-fault
-
-ended-refuses : {A : Type 0} {r : Reader A} → Refuses r → Refuses (ended r)
-unfolding ended
-ended-refuses h =
-    bind-refuses h λ a.
-    bind-refuses (lineEnd-refuses line-fault) λ _.
-    give-refuses
-
-pub card-refuses : (sh : Sheet) → Refuses (card sh)
-unfolding card
-card-refuses sh =
-    bind-refuses (due-refuses (text "case=") line-fault) λ _.
-    bind-refuses (ended-refuses (dueName-refuses (sh .model))) λ _.
-    bind-refuses (each-refuses (λ n. ended-refuses (entry-line-refuses n)) (sh .fields)) λ es.
-    bind-refuses (each-refuses (λ n. ended-refuses (mark-line-refuses n)) (statusNames (statuses sh))) λ ss.
-    bind-refuses (endLine-refuses (length es + length ss)) λ _.
-    give-refuses
-
-put-refuses : (sh : Sheet) (f : ℕ) → Refuses (put sh f)
-unfolding put
-put-refuses sh f =
-    bind-refuses (due-refuses (text " ") line-fault) λ _.
-    bind-refuses (entry-line-refuses (getD (sh .fields) f [])) λ e.
-    give-refuses
-
-pub happening-refuses : (sh : Sheet) → Refuses (happening sh)
-unfolding happening
-happening-refuses sh =
-    bind-refuses (known-refuses (eventNames (sh .events))) λ i.
-    bind-refuses (each-refuses (put-refuses sh) (carriedBy sh i)) λ ps.
-    bind-refuses (lineEnd-refuses line-fault) λ _.
-    bind-refuses paperEnd-refuses λ _.
     give-refuses

@@ -18,12 +18,15 @@ pub record Spells {A : Type 0} (u : List ℕ) (r : Reader A) (w : A → List ℕ
   pub reads : (l : ℕ) (s : List ℕ) → Yields (r l s) (λ a t. u ++ s ≡ w a ++ t)
 
 module _ {A : Type 0} where
+  -- nothing more is passed
   pub give-spells : {u : List ℕ} {a : A} {w : A → List ℕ} → u ≡ w a → Spells u (give a) w
   give-spells e = record { reads = λ l s. got-yields (ap (λ v. v ++ s) e) }
 
+  -- a refusal passes nothing
   pub refuse-spells : {u : List ℕ} {n : ℕ} {w : A → List ℕ} → Spells u (refuse n) w
   refuse-spells = record { reads = λ l s. wrong-yields }
 
+  -- the one reader or the other, and which
   pub choose-spells : {u : List ℕ} {r t : Reader A} {w : A → List ℕ} (b : Bool) → (b ≡ true → Spells u r w) → (b ≡ false → Spells u t w) → Spells u (choose b r t) w
   choose-spells true h g = h refl
   choose-spells false h g = g refl
@@ -40,6 +43,7 @@ module _ {A B : Type 0} where
           record { of = λ b k z y. ap (λ x. u ++ x) e ∙ sym (append-assoc u (v a) t) ∙ g a (p .of a i t refl) .reads i t .of b k z y }
       go l s (wrong n i) p q = wrong-yields
 
+  -- one reader after the other
   pub bind-spells : {u : List ℕ} {v : A → List ℕ} {w : B → List ℕ} {r : Reader A} {f : A → Reader B}
       → Spells [] r v → ((a : A) → Spells (u ++ v a) (f a) w) → Spells u (λ l s. after (r l s) f) w
   bind-spells h g = knowing-spells {P = λ a. Unit {0}} (record { gives = λ l s. record { of = λ a k t e. tt } }) h λ a x. g a
@@ -48,9 +52,11 @@ module _ {A B : Type 0} where
 pub behind-spells : {A : Type 0} (u : List ℕ) {v : A → List ℕ} {r : Reader A} → Spells [] r v → Spells u r (λ a. u ++ v a)
 behind-spells u {v} h = record { reads = λ l s. record { of = λ a k t e. ap (λ x. u ++ x) (h .reads l s .of a k t e) ∙ sym (append-assoc u (v a) t) } }
 
+-- a demand passes nothing
 pub demand-spells : (n : ℕ) (b : Bool) → Spells [] (demand n b) (λ x. [])
 demand-spells n b = choose-spells b (λ e. give-spells refl) (λ e. refuse-spells)
 
+-- nor does this test
 pub notEnded-spells : Spells [] notEnded (λ x. [])
 unfolding notEnded
 notEnded-spells = record { reads = λ l s. go l s }
@@ -70,6 +76,7 @@ begins-text (y ∷ w) (x ∷ s) e = go (eqb x y) refl e (begins-text w s)
     go true q e ih = ap₂ (λ a r. a ∷ r) (eqb-true x y q) (ih e)
     go false q e ih = absurd (false≢true e)
 
+-- the text, if it stands here
 pub stands-spells : (w : List ℕ) → Spells [] (stands w) (λ b. cond b w [])
 unfolding stands
 stands-spells w = record { reads = λ l s. go l s (begins w s) refl }
@@ -78,6 +85,7 @@ stands-spells w = record { reads = λ l s. go l s (begins w s) refl }
     go l s true e = got-yields (begins-text w s e)
     go l s false e = got-yields refl
 
+-- the text due
 pub due-spells : (n : ℕ) (w : List ℕ) → Spells [] (due n w) (λ x. w)
 unfolding due
 due-spells n w =
@@ -85,6 +93,7 @@ due-spells n w =
     bind-spells (stands-spells w) λ b.
     choose-spells b (λ e. give-spells (rw e)) (λ e. refuse-spells)
 
+-- the LF
 pub lineEnd-spells : (n : ℕ) → Spells [] (lineEnd n) (λ x. text "\n")
 unfolding lineEnd
 lineEnd-spells n =
@@ -96,6 +105,7 @@ pub longest-spells : (p : ℕ → Bool) → Spells [] (longest p) (λ w. w)
 unfolding longest
 longest-spells p = record { reads = λ l s. got-yields (sym (take-append-drop (run p s) s)) }
 
+-- a name
 pub name-spells : Spells [] name (λ w. w)
 unfolding name
 name-spells =
@@ -104,6 +114,7 @@ name-spells =
     bind-spells (demand-spells NAME (goodName w)) λ y.
     give-spells (append-nil w)
 
+-- the name due
 pub dueName-spells : (n : Name) → Spells [] (dueName n) (λ x. n)
 unfolding dueName
 dueName-spells n =
