@@ -16,5 +16,25 @@ pub mod Shelter
 pub mod Cuts
 pub mod Alike
 pub mod Listed
--- Reading from any line:
+-- How readers are built, and what follows of all of them: the numbers they refuse with, and that they do not look at the line's number:
+pub mod Built
+pub mod BuiltPapers
+pub mod Faults
 pub mod Shift
+-- What was read: a logic of readers and papers, and what holds of names, conditions and sheets, numbers, cards and event lines:
+pub mod Readers
+pub mod Names
+pub mod Spelling
+pub mod Conditions
+pub mod Formed
+pub mod Sheets
+pub mod Edges
+pub mod Entries
+pub mod Counts
+pub mod Cards
+pub mod Papers
+-- What is written: a card is read back, so a step's result is again accepted; every card read is so written:
+pub mod Accepted
+pub mod Written
+-- What is refused, and with which number:
+pub mod Numbers

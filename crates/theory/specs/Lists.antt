@@ -7,7 +7,7 @@ use mathlib.Core.Logic.{_⊎_, inl, inr, ⊎-elim}
 use native.Mathlib.Omega.{arith}
 use native.Mathlib.Decide.{ℕ-discrete}
 use lib.Dec.{eqb}
-use lib.ListN.{length, getD}
+use lib.ListN.{length, getD, set}
 use borrow.Author.Tests.{eq-eqb, eqb-true, eqb-false}
 use Rattle.meaning.specs.Text.{In, any, keep, joined, isIn, from}
 use Rattle.meaning.specs.Graph.{without}
@@ -242,3 +242,11 @@ pub at-place : (o : List ℕ) (i : ℕ) → i < length o → In (getD o i 0) o
 at-place [] i h = absurd (omega arith)
 at-place (x ∷ o) zero h = inl refl
 at-place (x ∷ o) (suc i) h = inr (at-place o i (omega arith))
+
+-- a member of a list with one place set
+pub set-in : {A : Type 0} (xs : List A) (i : ℕ) (a x : A) → In x (set xs i a) → (x ≡ a) ⊎ In x xs
+set-in [] i a x h = absurd h
+set-in (y ∷ xs) zero a x (inl e) = inl e
+set-in (y ∷ xs) zero a x (inr h) = inr (inr h)
+set-in (y ∷ xs) (suc i) a x (inl e) = inr (inl e)
+set-in (y ∷ xs) (suc i) a x (inr h) = ⊎-elim (λ e. inl e) (λ k. inr (inr k)) (set-in xs i a x h)
