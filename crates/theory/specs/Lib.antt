@@ -1,3 +1,5 @@
+-- To be read: what document 01 demands.
+pub mod Demands
 -- Lists:
 pub mod Lists
 pub mod Ascending
@@ -36,5 +38,7 @@ pub mod Papers
 -- What is written: a card is read back, so a step's result is again accepted; every card read is so written:
 pub mod Accepted
 pub mod Written
+-- A case that was taken:
+pub mod Cases
 -- What is refused, and with which number:
 pub mod Numbers
