@@ -60,36 +60,48 @@ module _ (p : ℕ → Bool) where
 
 -- GOOD NAMES
 
--- good by the rules, and of letters and digits throughout
-pub record Good (w : Name) : Type 0 where
-  pub good : goodName w ≡ true
-  pub plain : run nameByte w ≡ length w
+-- good by the rules
+abbrev pub Good : Name → Type 0
+Good w = goodName w ≡ true
+
+-- the parts of the rule for the name with the first byte x
+module _ (x : ℕ) (w : Name) (h : Good (x ∷ w)) where
+  parts : (a b c d : Bool) → a && b && c && d ≡ true → (b ≡ true) × (c ≡ true)
+  parts true true true d e = (refl, refl)
+  parts true true false d e = absurd (false≢true e)
+  parts true false c d e = absurd (false≢true e)
+  parts false b c d e = absurd (false≢true e)
+
+  good-parts : (eqb (run nameByte (x ∷ w)) (suc (length w)) ≡ true) × (leb (suc (length w)) nameBytes ≡ true)
+  unfolding goodName
+  good-parts = parts (letter x) (eqb (run nameByte (x ∷ w)) (suc (length w))) (leb (suc (length w)) nameBytes) (not (among (x ∷ w) reserved)) h
 
 -- a good name has at most 12 bytes
 pub good-short : (w : Name) → Good w → length w ≤ nameBytes
 unfolding goodName
-good-short [] h = absurd (false≢true (h .good))
-good-short (x ∷ w) h = leb-true (suc (length w)) nameBytes (go (letter x) (leb (length (x ∷ w)) nameBytes) (not (among (x ∷ w) reserved)) (h .good))
-  where
-    go : (a b c : Bool) → a && b && c ≡ true → b ≡ true
-    go true true c e = refl
-    go true false c e = e
-    go false b c e = absurd (false≢true e)
+good-short [] h = absurd (false≢true h)
+good-short (x ∷ w) h = leb-true (suc (length w)) nameBytes (good-parts x w h .1)
+
+-- and letters and digits throughout
+pub good-plain : (w : Name) → Good w → run nameByte w ≡ length w
+unfolding goodName
+good-plain [] h = absurd (false≢true h)
+good-plain (x ∷ w) h = eqb-true (run nameByte (x ∷ w)) (suc (length w)) (good-parts x w h .0)
 
 -- whatever is read as a name is good
 pub name-good : Ensures name Good
 unfolding name
 name-good =
     any-ensures notEnded λ _.
-    bind-ensures (longest-full nameByte) λ w h.
+    any-ensures (longest nameByte) λ w.
     bind-ensures (demand-ensures NAME (goodName w)) λ _ g.
-    give-ensures (record { good = g; plain = h })
+    give-ensures g
 
 -- a good name is read back where no letter or digit follows
 pub name-again : (w t : List ℕ) (l : ℕ) → Good w → run nameByte t ≡ 0 → name l (w ++ t) ≡ got w l t
-unfolding name goodName notEnded
-name-again [] t l h g = absurd (false≢true (h .good))
-name-again (x ∷ w) t l h g = rw (longest-again nameByte (x ∷ w) t l (h .plain) g, h .good)
+unfolding name notEnded
+name-again [] t l h g = absurd (false≢true (unfold goodName in h))
+name-again (x ∷ w) t l h g = rw (longest-again nameByte (x ∷ w) t l (good-plain (x ∷ w) h) g, h)
 
 -- THE SAME NAME
 
