@@ -1,5 +1,5 @@
 -- How every reader is built: from a few pieces, by one after the other and by choice. What the pieces have and the joining keeps, every reader has.
-use Prim.Native.Nat.{ℕ, suc, _+_, _≤_}
+use Prim.Native.Nat.{ℕ, _+_, _≤_}
 use mathlib.Core.Bool.{Bool, not}
 use mathlib.Core.List.{List, [], _∷_}
 use mathlib.Core.Option.{Option, none, some}
@@ -7,7 +7,7 @@ use native.Mathlib.Omega.{arith}
 use lib.Dec.{eqb}
 use Rattle.meaning.specs.Text.{text, same, among, find}
 use Rattle.meaning.specs.Refusal.{LINE, NAME, NUMBER, COND, FULL}
-use Rattle.meaning.specs.Reading.{got, Reader, after, give, refuse, choose, demand, each, notEnded, stands, due, Word, oneOf, longest, lineEnd, paperEnd}
+use Rattle.meaning.specs.Reading.{Reader, after, give, refuse, choose, demand, each, notEnded, stands, due, Word, oneOf, longest, lineEnd, paperEnd}
 use Rattle.meaning.specs.Name.{Name, nameByte, digit, goodName, name, newName, dueName, placed, known}
 use Rattle.meaning.specs.Number.{middle, digits, place, judged, number, entry, endLine}
 
@@ -25,7 +25,7 @@ pub data BuiltOf : (A : Type 0) → Reader A → Type 1 where
   paperEnd-built : BuiltOf (Unit {0}) paperEnd
   stands-built : (w : List ℕ) → BuiltOf Bool (stands w)
   longest-built : (p : ℕ → Bool) → BuiltOf (List ℕ) (longest p)
-  line-built : BuiltOf (Unit {0}) (λ l s. got tt (suc l) s)
+  lineEnd-built : {n : ℕ} → Fault n → BuiltOf (Unit {0}) (lineEnd n)
 
 abbrev pub Built : {A : Type 0} → Reader A → Type 1
 Built {A} r = BuiltOf A r
@@ -67,13 +67,6 @@ oneOf-built [] h = refuse-built h
 oneOf-built (w ∷ ws) h =
     bind-built (stands-built (w .spelled)) λ b.
     choose-built b give-built (oneOf-built ws h)
-
--- an LF
-pub lineEnd-built : {n : ℕ} → Fault n → Built (lineEnd n)
-unfolding lineEnd
-lineEnd-built h =
-    bind-built (due-built (text "\n") h) λ _.
-    line-built
 
 -- a reader for each member
 pub each-built : {A B : Type 0} {r : B → Reader A} → ((b : B) → Built (r b)) → (bs : List B) → Built (each r bs)

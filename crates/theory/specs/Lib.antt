@@ -18,11 +18,12 @@ pub mod Shelter
 pub mod Cuts
 pub mod Alike
 pub mod Listed
--- How readers are built, and what follows of all of them: the numbers they refuse with, and that they do not look at the line's number:
+-- How readers are built, and what follows of all of them: the numbers they refuse with, that they do not look at the line's number, and how far lines go:
 pub mod Built
 pub mod BuiltPapers
 pub mod Faults
 pub mod Shift
+pub mod Lines
 -- What was read: a logic of readers and papers, and what holds of names, conditions and sheets, numbers, cards and event lines:
 pub mod Readers
 pub mod Names

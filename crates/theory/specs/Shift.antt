@@ -5,9 +5,9 @@ use mathlib.Core.Bool.{Bool, true, false, cond}
 use mathlib.Core.List.{List, [], _∷_}
 use native.Mathlib.Omega.{arith}
 use lib.ListN.{length, drop, take}
-use Rattle.meaning.specs.Text.{begins, run}
-use Rattle.meaning.specs.Reading.{Got, got, wrong, Reader, after, notEnded, stands, longest, paperEnd}
-use Rattle.theory.specs.Built.{Built, give-built, refuse-built, choose-built, bind-built, notEnded-built, paperEnd-built, stands-built, longest-built, line-built}
+use Rattle.meaning.specs.Text.{text, begins, run}
+use Rattle.meaning.specs.Reading.{Got, got, wrong, Reader, after, demand, notEnded, stands, due, longest, lineEnd, paperEnd}
+use Rattle.theory.specs.Built.{Built, give-built, refuse-built, choose-built, bind-built, notEnded-built, paperEnd-built, stands-built, longest-built, lineEnd-built}
 
 module _ {A : Type 0} where
   -- what was read, its lines l more
@@ -30,6 +30,16 @@ module _ {A B : Type 0} (f : A → Reader B) (h : (a : A) (l : ℕ) (s : List �
   shifted-bind l (got a k t) = h a (l + k) t ∙ sym (shifted-twice l k (f a 0 t)) ∙ ap (shifted l) (sym (h a k t))
   shifted-bind l (wrong n k) = refl
 
+line-shifts : (n l : ℕ) (s : List ℕ) → lineEnd n l s ≡ shifted l (lineEnd n 0 s)
+unfolding lineEnd due notEnded stands
+line-shifts n l [] = denied 2 l
+line-shifts n l (x ∷ s) = go (begins (text "\n") (x ∷ s))
+  where
+    go : (b : Bool) → after (after (cond b (got true l s) (got false l (x ∷ s))) (λ b. demand n b)) (λ u k t. got u (suc k) t)
+        ≡ shifted l (after (after (cond b (got true 0 s) (got false 0 (x ∷ s))) (λ b. demand n b)) (λ u k t. got u (suc k) t))
+    go true = let e : suc l ≡ l + 1 = omega arith in ap (λ j. got tt j s) e
+    go false = denied n l
+
 -- every reader that is built from the pieces
 pub built-shifts : {A : Type 0} {r : Reader A} → Built r → (l : ℕ) (s : List ℕ) → r l s ≡ shifted l (r 0 s)
 unfolding notEnded paperEnd stands longest
@@ -48,4 +58,4 @@ built-shifts (stands-built w) l s = go (begins w s)
     go true = given true l (drop (length w) s)
     go false = given false l s
 built-shifts (longest-built p) l s = given (take (run p s) s) l (drop (run p s) s)
-built-shifts line-built l s = let e : suc l ≡ l + 1 = omega arith in ap (λ j. got tt j s) e
+built-shifts (lineEnd-built {n = n} h) l s = line-shifts n l s
