@@ -1,2 +1,3 @@
--- What the code answers for what the meaning reads:
+-- What the code answers for what the meaning reads, and runs of digits:
 pub mod Answers
+pub mod Digits
