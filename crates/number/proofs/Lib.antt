@@ -2,4 +2,5 @@
 pub mod Laws
 pub mod Numbers
 pub mod Entries
+pub mod Ends
 pub mod Callers

@@ -1,10 +1,12 @@
 // Numbers and values. A number is told by its place on the scale: the number and 1000000000 more. A value is 0 for `?`, and otherwise its place and 1 more.
 ghost use mathlib.Core.Path.{_≡_};
-ghost use Prim.Native.Nat.{_<_};
+ghost use Prim.Native.Nat.{_+_, _<_};
+ghost use lib.Dec.{eqb};
 ghost use Rattle.meaning.specs.Name.{digit};
 ghost use Rattle.meaning.specs.Number.{number, entry, endLine};
 ghost use Rattle.number.specs.Answers.{asNumber, asEntry, asEnd};
 ghost use Rattle.number.specs.Digits.{needlessZero, amountRun, digitsRun};
+ghost use Rattle.number.specs.Ending.{closed};
 
 // A number: its place, and how many bytes it took; or the refusal's number.
 pub enum NumberPiece {
@@ -129,5 +131,48 @@ pub fn entry_piece(s: &[u8]) -> EntryPiece
     match p {
         NumberPiece::Refused(k) => EntryPiece::Refused(k),
         NumberPiece::Number(v, n) => EntryPiece::Entry(v + 1, n),
+    }
+}
+
+// Whether the number at the place `v` is the count. No sum is made, which a large count would not fit.
+fn is_count(v: u64, count: usize) -> bool
+    ensures { λ r. ⌜ r ≡ eqb v (1000000000 + count) ⌝ }
+{
+    if v < 1000000000 {
+        return false;
+    }
+    v - 1000000000 == count as u64
+}
+
+// What stands behind the count: the LF of the last line, and nothing more.
+fn closing(s: &[u8]) -> End
+    ensures { λ r. ⌜ r ≡ asEnd (closed 0 (now (s .entry))) ⌝ }
+{
+    if !text::starts(s, b"\n") {
+        return End::Refused(2, 0);
+    }
+    if s.len() != 1 {
+        return End::Refused(2, 1);
+    }
+    End::Done
+}
+
+// The line `end=` with the count, behind which nothing stands.
+pub fn end_line(s: &[u8], count: usize) -> End
+    ensures { λ r. ⌜ r ≡ asEnd (endLine count 0 (now (s .entry))) ⌝ }
+{
+    if !text::starts(s, b"end=") {
+        return End::Refused(2, 0);
+    }
+    let told = text::rest(s, 4);
+    let p = number_piece(told);
+    match p {
+        NumberPiece::Refused(k) => End::Refused(k, 0),
+        NumberPiece::Number(v, n) => {
+            if !is_count(v, count) {
+                return End::Refused(2, 0);
+            }
+            closing(text::rest(told, n))
+        }
     }
 }
