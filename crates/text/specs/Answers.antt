@@ -1,0 +1,42 @@
+-- What the code answers for what the meaning reads: one function for each type of answer.
+use Prim.Native.Nat.{ℕ, suc, _-_}
+use mathlib.Core.Bool.{true, false}
+use mathlib.Core.List.{List, [], _∷_}
+use lib.ListN.{length}
+use lib.Dec.{eqb}
+use Rattle.meaning.specs.Reading.{Got, got, wrong}
+use Rattle.meaning.specs.Name.{Name}
+use Rattle.text.specs.Packed.{packed}
+use Rattle.text.specs.declared.Bytes.{Bytes}
+use Rattle.text.specs.declared.Bytes.the-variants as B
+use Rattle.text.specs.declared.NamePiece.{NamePiece}
+use Rattle.text.specs.declared.NamePiece.the-variants as N
+use Rattle.text.specs.declared.Known.{Known}
+use Rattle.text.specs.declared.Known.the-variants as K
+use Rattle.text.specs.declared.Found.{Found}
+use Rattle.text.specs.declared.Found.the-variants as F
+
+-- a piece of known text, read at the start of s: the bytes that it took
+abbrev pub asBytes : List ℕ → Got (Unit {0}) → Bytes
+asBytes s (got u l t) = B.Read (length s - length t)
+asBytes s (wrong n l) = B.Refused n
+
+-- a name
+abbrev pub asName : Got Name → NamePiece
+asName (got w l t) = N.Name (packed w) (length w)
+asName (wrong n l) = N.Refused n
+
+-- a place in a table
+abbrev pub asKnown : List ℕ → Got ℕ → Known
+asKnown s (got i l t) = K.At i (length s - length t)
+asKnown s (wrong n l) = K.Refused n
+
+-- one place further on
+abbrev pub further : Found → Found
+further (F.At i) = F.At (suc i)
+further F.Nothing = F.Nothing
+
+-- the first place of a packed name
+unfoldable pub foundIn : ℕ → List ℕ → Found
+foundIn w [] = F.Nothing
+foundIn w (v ∷ vs) = elim (eqb v w) [ true ↦ F.At 0 | false ↦ further (foundIn w vs) ]

@@ -1,0 +1,28 @@
+-- A name in one number: its symbols in base 38, the first one lowest, and what any number stands for.
+use Prim.Native.Nat.{ℕ, zero, suc, _+_, _-_, _*_, _/_, _%_}
+use mathlib.Core.Bool.{true, false, cond, _&&_}
+use mathlib.Core.List.{List, [], _∷_}
+use lib.Dec.{leb, eqb}
+use Rattle.meaning.specs.Name.{Name}
+
+-- the letters a to z are 1 to 26, the digits 0 to 9 are 27 to 36
+unfoldable pub symbol : ℕ → ℕ
+symbol x = cond (leb 97 x) (x - 96) (x - 21)
+
+-- the byte of a symbol; 0, which is in no name, for a number that is none
+unfoldable pub byteOf : ℕ → ℕ
+byteOf d = cond (leb 1 d && leb d 26) (d + 96) (cond (leb 27 d && leb d 36) (d + 21) 0)
+
+-- a name packed
+unfoldable pub packed : Name → ℕ
+packed [] = 0
+packed (x ∷ w) = symbol x + 38 * packed w
+
+-- the symbols of a number, at most k of them
+unfoldable pub namedIn : ℕ → ℕ → Name
+namedIn zero v = []
+namedIn (suc k) v = elim (eqb v 0) [ true ↦ [] | false ↦ byteOf (v % 38) ∷ namedIn k (v / 38) ]
+
+-- the name that a number stands for. One symbol more than a name may have, so that a larger number stands for no good name
+unfoldable pub named : ℕ → Name
+named v = namedIn 13 v
