@@ -10,6 +10,7 @@ use lib.ListN.{length, drop, take}
 use Rattle.meaning.specs.Text.{text, begins, same, among, find, later, isIn}
 use Rattle.meaning.specs.Reading.{got, wrong, notEnded, stands, due, lineEnd}
 use Rattle.meaning.specs.Name.{goodName, name, newName, dueName, known}
+use Rattle.theory.specs.Names.{find-below}
 use Rattle.text.specs.declared.Bytes.{Bytes}
 use Rattle.text.specs.declared.Bytes.the-variants as B
 use Rattle.text.specs.declared.NamePiece.{NamePiece}
@@ -142,24 +143,6 @@ module _ (p : NamePiece) (used : List (List ℕ)) (t : List ℕ) (is : p ≡ asN
     new-name-few = new-taken .0 .also .1 .0 .few
 
 -- NAMES OF A TABLE, from the answer p of known_name
-find-within : (w : List ℕ) (ns : List (List ℕ)) (i : ℕ) → find w ns ≡ some i → i < length ns
-unfolding find
-find-within w [] i e =
-    let z : _≡_ {A = ℕ} 0 1 = cc in
-    absurd (omega arith)
-find-within w (k ∷ ns) i e = go (same w k) (find w ns) e (find-within w ns)
-  where
-    go : (b : Bool) (o : Option ℕ) → elim b [ true ↦ some 0 | false ↦ later o ] ≡ some i → ((j : ℕ) → o ≡ some j → j < length ns) → i < suc (length ns)
-    go true o e ih =
-        let z : 0 ≡ i = cc in
-        omega arith
-    go false none e ih =
-        let z : _≡_ {A = ℕ} 0 1 = cc in
-        absurd (omega arith)
-    go false (some j) e ih =
-        let z : suc j ≡ i = cc in
-        omega (arith, ih j refl)
-
 -- a good name, at a place of the table
 abbrev Held : List ℕ → List (List ℕ) → ℕ → ℕ → Type 0
 Held t ns n i = Spelt t n × (i < length ns)
@@ -170,7 +153,7 @@ known-step ns t = go (name-step t)
   where
     tested : (n : ℕ) (w : List ℕ) → Took name (Bites t (Spelt t)) t n w → (o : Option ℕ) → find w ns ≡ o → Step (known ns) (Held t ns) t
     tested n w s none e = failed 3 (λ l. rw (s .reads l, e))
-    tested n w s (some i) e = took n i record { within = s .within; also = (s .also .1, find-within w ns i e); reads = λ l. rw (s .reads l, e) }
+    tested n w s (some i) e = took n i record { within = s .within; also = (s .also .1, find-below w ns i e); reads = λ l. rw (s .reads l, e) }
 
     go : Step name (Bites t (Spelt t)) t → Step (known ns) (Held t ns) t
     go (took n w s) = tested n w s (find w ns) refl

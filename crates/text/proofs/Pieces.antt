@@ -1,17 +1,18 @@
 -- The readers of names and fixed texts, as the code answers them.
 use mathlib.Core.Path.{_≡_, refl, ap, sym, _∙_}
-use mathlib.Core.Bool.{Bool, true, false, cond, not, _&&_, _||_, and-false, false≢true}
+use mathlib.Core.Bool.{Bool, true, false, cond, not, _&&_, _||_, and-true, and-false, false≢true}
 use mathlib.Core.List.{List, [], _∷_, map}
 use mathlib.Core.Option.{Option, none, some}
-use Prim.Native.Nat.{ℕ, _-_, _<_, _≤_}
+use Prim.Native.Nat.{ℕ, suc, _-_, _<_, _≤_}
 use native.Mathlib.Omega.{arith}
 use borrow.Author.Tests.{not-true, not-false, leb-true, le-leb, lt-leb, eq-eqb, ne-eqb}
-use lib.Dec.{leb}
+use lib.Dec.{leb, eqb}
 use lib.ListN.{length, drop, take, getD}
 use lib.Seq.{length-take-le}
 use Rattle.meaning.specs.Text.{run, begins, same, among, find, later, isIn}
 use Rattle.meaning.specs.Reading.{got, wrong, notEnded, stands, due, longest}
 use Rattle.meaning.specs.Name.{letter, digit, nameByte, reserved, goodName, name, newName, dueName, known}
+use Rattle.theory.specs.Names.{run-taken, good-short}
 use Rattle.text.specs.declared.Bytes.the-variants as B
 use Rattle.text.specs.declared.NamePiece.{NamePiece}
 use Rattle.text.specs.declared.NamePiece.the-variants as N
@@ -55,9 +56,12 @@ unfolding goodName run
 good-is [] = refl
 good-is (x ∷ t) = go (nameByte x) refl
   where
+    all : nameByte x ≡ true → eqb (run nameByte (x ∷ word t)) (suc (length (word t))) ≡ true
+    all e = eq-eqb (run nameByte (x ∷ word t)) (suc (length (word t))) (run-cons nameByte x (word t) e ∙ ap suc (run-taken nameByte t))
+
     go : (b : Bool) → nameByte x ≡ b
         → goodName (word (x ∷ t)) ≡ (letter x && leb (run nameByte (x ∷ t)) 12 && not (among (word (x ∷ t)) reserved))
-    go true e = rw (run-cons nameByte x t e, length-run t (run nameByte t) refl)
+    go true e = rw (run-cons nameByte x t e, all e, and-true (letter x), length-run t (run nameByte t) refl)
     go false e = rw (run-halt nameByte x t e, not-letter x e)
 
 pub word-packable : (t : List ℕ) → run nameByte t ≤ 12 → Packable (word t)
@@ -106,7 +110,7 @@ pub record Spelt (t : List ℕ) (n : ℕ) : Type 0 where
 good-size : (w : List ℕ) → goodName w ≡ true → (1 ≤ length w) × (length w ≤ 12)
 unfolding goodName
 good-size [] e = absurd (false≢true e)
-good-size (x ∷ w) e = (omega arith, leb-true (length (x ∷ w)) 12 (and-both (letter x) _ (and-both (letter x && leb (length (x ∷ w)) 12) _ e .0) .1))
+good-size (x ∷ w) e = (omega arith, good-short (x ∷ w) e)
 
 pub name-step : (t : List ℕ) → Step name (Bites t (Spelt t)) t
 name-step [] = failed 2 (λ l. name-ended l [] refl)

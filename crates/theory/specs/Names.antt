@@ -27,7 +27,7 @@ module _ (p : ℕ → Bool) where
   run-more x s e = rw (e, run)
 
   -- the longest run passes throughout
-  run-taken : (s : List ℕ) → run p (take (run p s) s) ≡ length (take (run p s) s)
+  pub run-taken : (s : List ℕ) → run p (take (run p s) s) ≡ length (take (run p s) s)
   unfolding run
   run-taken [] = refl
   run-taken (x ∷ s) = go (p x) refl (run-taken s)
