@@ -15,9 +15,9 @@ use Rattle.meaning.specs.Reading.{demand, stands, oneOf, lineEnd}
 use Rattle.meaning.specs.Name.{Name}
 use Rattle.meaning.specs.Sheet.{Sheet, Event, Status, Trigger, always, event, rise, fall, Rule, statuses, statusNames, eventNames, leavesOf, leaves}
 use Rattle.meaning.specs.ReadSheet.{carried, eventRow, status, signs, trigger, ruleRow}
-use Rattle.theory.specs.Lists.{in-cases, in-is}
+use Rattle.theory.specs.Lists.{in-cases, in-is, Once, once-more}
 use Rattle.theory.specs.Readers.{Ensures, give-ensures, refuse-ensures, choose-ensures, demand-ensures, bind-ensures, any-ensures}
-use Rattle.theory.specs.Names.{Good, newName-new, known-below, Different, different-more}
+use Rattle.theory.specs.Names.{Good, newName-new, known-below}
 use Rattle.theory.specs.Conditions.{LeavesIn, condition-in}
 
 -- WHAT IT IS TO BE WELL FORMED
@@ -40,7 +40,7 @@ pub record StatusIn (k : ℕ) (s : Status) : Type 0 where
 pub record EventIn (m : ℕ) (e : Event) : Type 0 where
   pub name : Good (e .name)
   pub carries : Each (λ f. f < m) (e .carries)
-  pub once : Different (e .carries)
+  pub once : Once (e .carries)
 
 -- a trigger that names one of n statuses or one of v events
 abbrev pub TriggerIn : ℕ → ℕ → Trigger → Type 0
@@ -64,7 +64,7 @@ pub record Well (sh : Sheet) : Type 0 where
   pub miles : Each (StatusIn (length (sh .stages))) (sh .miles)
   pub rules : Each (RuleIn (length (statuses sh)) (length (sh .fields)) (length (sh .events))) (sh .rules)
   -- "Names of fields, events, stages and miles all differ"
-  pub names : Different (sh .fields ++ eventNames (sh .events) ++ statusNames (sh .stages) ++ statusNames (sh .miles))
+  pub names : Once (sh .fields ++ eventNames (sh .events) ++ statusNames (sh .stages) ++ statusNames (sh .miles))
   pub fields-few : length (sh .fields) ≤ fieldLimit
   pub events-few : length (sh .events) ≤ eventLimit
   pub statuses-few : length (statuses sh) ≤ statusLimit
@@ -83,9 +83,9 @@ names-more f [] (x ∷ so) a = ap (λ r. f x ∷ r) (names-more f [] so a)
 names-more f (u ∷ used) so a = ap (λ r. u ∷ r) (names-more f used so a)
 
 -- names that stand behind others in use, all different
-pub different-row : {A : Type 0} (f : A → Name) (used : List Name) (so : List A) (a : A)
-    → Different (used ++ map f so) → (In (f a) (used ++ map f so) → ⊥) → Different (used ++ map f (so ++ (a ∷ [])))
-different-row f used so a d h = rw (names-more f used so a) (different-more (used ++ map f so) (f a) d h)
+pub once-row : {A : Type 0} (f : A → Name) (used : List Name) (so : List A) (a : A)
+    → Once (used ++ map f so) → (In (f a) (used ++ map f so) → ⊥) → Once (used ++ map f (so ++ (a ∷ [])))
+once-row f used so a d h = rw (names-more f used so a) (once-more (used ++ map f so) (f a) d h)
 
 -- more stages
 pub under-up : (j k : ℕ) (u : Option ℕ) → j ≤ k → UnderIn j u → UnderIn k u
@@ -99,8 +99,8 @@ status-up j k s h g = record { name = g .name; under = under-up j k (s .under) h
 -- ROWS
 
 -- the fields that an event carries
-pub carried-in : (fields : List Name) (m : ℕ) (so : List ℕ) → Each (λ f. f < length fields) so → Different so
-    → Ensures (carried fields m so) (λ fs. Each (λ f. f < length fields) fs × Different fs)
+pub carried-in : (fields : List Name) (m : ℕ) (so : List ℕ) → Each (λ f. f < length fields) so → Once so
+    → Ensures (carried fields m so) (λ fs. Each (λ f. f < length fields) fs × Once fs)
 unfolding carried
 carried-in fields zero so h d = refuse-ensures
 carried-in fields (suc m) so h d =
@@ -109,7 +109,7 @@ carried-in fields (suc m) so h d =
     (bind-ensures (known-below fields) λ f b.
     bind-ensures (demand-ensures NAME (not (isIn f so))) λ _ g.
     carried-in fields m (so ++ (f ∷ [])) (each-more (λ f. f < length fields) so f h b)
-    (different-more so f d (λ i. true≢false (sym (in-is f so i) ∙ not-true (isIn f so) g))))
+    (once-more so f d (λ i. true≢false (sym (in-is f so i) ∙ not-true (isIn f so) g))))
     (give-ensures (h, d))
 
 -- an event line, with a new name

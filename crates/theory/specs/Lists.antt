@@ -172,16 +172,21 @@ without-in i k (x ∷ l) m = go (eqb x k) refl m (without-in i k l)
     go false e (inr m) ih = (inr (ih m .0), ih m .1)
 
 -- no member twice
-abbrev pub Once : List ℕ → Type 0
+abbrev pub Once : {A : Type 0} → List A → Type 0
 Once [] = Unit {0}
 Once (x ∷ l) = (In x l → ⊥) × Once l
+
+-- one more that is not yet there
+pub once-more : {A : Type 0} (xs : List A) (a : A) → Once xs → (In a xs → ⊥) → Once (xs ++ (a ∷ []))
+once-more [] a d h = (λ m. m, tt)
+once-more (x ∷ xs) a d h = (λ m. ⊎-elim (d .0) (⊎-elim (λ e. h (inl (sym e))) absurd) (in-cases x xs (a ∷ []) m), once-more xs a (d .1) (λ m. h (inr m)))
 
 pub once-without : (k : ℕ) (l : List ℕ) → Once l → Once (without k l)
 unfolding without keep
 once-without k [] o = tt
 once-without k (x ∷ l) o = go (eqb x k) (once-without k l (o .1))
   where
-    go : (b : Bool) → Once (without k l) → Once (elim (not b) [ true ↦ x ∷ keep (λ j. not (eqb j k)) l | false ↦ keep (λ j. not (eqb j k)) l ])
+    go : (b : Bool) → Once (without k l) → Once {A = ℕ} (elim (not b) [ true ↦ x ∷ keep (λ j. not (eqb j k)) l | false ↦ keep (λ j. not (eqb j k)) l ])
     go true h = h
     go false h = (λ m. o .0 (without-in x k l m .0), h)
 

@@ -15,7 +15,6 @@ use Rattle.meaning.specs.Refusal.{NAME}
 use Rattle.meaning.specs.Limits.{nameBytes}
 use Rattle.meaning.specs.Reading.{got, notEnded, longest}
 use Rattle.meaning.specs.Name.{Name, letter, nameByte, reserved, goodName, name, newName, dueName, placed, known}
-use Rattle.theory.specs.Lists.{in-cases}
 use Rattle.theory.specs.Readers.{Ensures, got-yields, give-ensures, refuse-ensures, demand-ensures, bind-ensures, any-ensures}
 
 -- RUNS OF BYTES THAT PASS A TEST
@@ -129,16 +128,6 @@ unfolding dueName
 dueName-again w t l h g = rw (name-again w t l h g, same-self w)
 
 -- NEW NAMES AND KNOWN NAMES
-
--- no member twice
-abbrev pub Different : {A : Type 0} → List A → Type 0
-Different [] = Unit {0}
-Different (x ∷ xs) = (In x xs → ⊥) × Different xs
-
--- one more that is not yet there
-pub different-more : {A : Type 0} (xs : List A) (a : A) → Different xs → (In a xs → ⊥) → Different (xs ++ (a ∷ []))
-different-more [] a d h = (λ m. m, tt)
-different-more (x ∷ xs) a d h = (λ m. ⊎-elim (d .0) (⊎-elim (λ e. h (inl (sym e))) absurd) (in-cases x xs (a ∷ []) m), different-more xs a (d .1) (λ m. h (inr m)))
 
 -- a name that is not among others is none of them
 among-in : (w : Name) (ws : List Name) → among w ws ≡ false → In w ws → ⊥

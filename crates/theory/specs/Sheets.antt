@@ -11,53 +11,54 @@ use Rattle.meaning.specs.Name.{Name}
 use Rattle.meaning.specs.Number.{endLine}
 use Rattle.meaning.specs.Sheet.{Event, Status, statuses, statusNames, eventNames, withRules}
 use Rattle.meaning.specs.ReadSheet.{section, fieldRow, eventRow, stageRow, mileRow, ruleRow, heads, rulesOf, sheet}
+use Rattle.theory.specs.Lists.{Once, once-more}
 use Rattle.theory.specs.Readers.{Ensures, give-ensures, bind-ensures, any-ensures, ensures-weaker, section-ensures}
-use Rattle.theory.specs.Names.{Good, name-good, newName-new, Different, different-more}
-use Rattle.theory.specs.Formed.{Each, StatusIn, EventIn, RuleIn, Well, each-more, different-row, status-up, event-in, status-in, rule-in}
+use Rattle.theory.specs.Names.{Good, name-good, newName-new}
+use Rattle.theory.specs.Formed.{Each, StatusIn, EventIn, RuleIn, Well, each-more, once-row, status-up, event-in, status-in, rule-in}
 
 -- SECTION BY SECTION
 
 -- the fields
-fields-in : Ensures (section (text "field=") fieldRow fieldLimit []) (λ ns. (Each Good ns × Different ns) × (length ns ≤ fieldLimit))
+fields-in : Ensures (section (text "field=") fieldRow fieldLimit []) (λ ns. (Each Good ns × Once ns) × (length ns ≤ fieldLimit))
 unfolding fieldRow
-fields-in = section-ensures (λ ns. Each Good ns × Different ns) (text "field=") fieldRow
+fields-in = section-ensures (λ ns. Each Good ns × Once ns) (text "field=") fieldRow
     (λ so q. bind-ensures (newName-new so) λ n g.
     any-ensures (lineEnd LINE) λ _.
-    give-ensures (each-more Good so n (q .0) (g .0), different-more so n (q .1) (g .1)))
+    give-ensures (each-more Good so n (q .0) (g .0), once-more so n (q .1) (g .1)))
     fieldLimit [] (λ n i. absurd i, tt)
 
 -- events over these fields, with names that differ from theirs
 abbrev Events : List Name → List Event → Type 0
-Events fields es = Each (EventIn (length fields)) es × Different (fields ++ eventNames es)
+Events fields es = Each (EventIn (length fields)) es × Once (fields ++ eventNames es)
 
 -- stages, with names that differ from those in use
 abbrev Stages : List Name → List Status → Type 0
-Stages used ss = Each (StatusIn (length ss)) ss × Different (used ++ statusNames ss)
+Stages used ss = Each (StatusIn (length ss)) ss × Once (used ++ statusNames ss)
 
 -- miles over these stages, likewise
 abbrev Miles : List Name → List Status → List Status → Type 0
-Miles used stages ms = Each (StatusIn (length stages)) ms × Different (used ++ statusNames stages ++ statusNames ms)
+Miles used stages ms = Each (StatusIn (length stages)) ms × Once (used ++ statusNames stages ++ statusNames ms)
 
 -- the events
-events-in : (fields : List Name) → Different fields → Ensures (section (text "event=") (eventRow fields) eventLimit []) (λ es. Events fields es × (length es ≤ eventLimit))
+events-in : (fields : List Name) → Once fields → Ensures (section (text "event=") (eventRow fields) eventLimit []) (λ es. Events fields es × (length es ≤ eventLimit))
 unfolding eventNames
 events-in fields d = section-ensures (Events fields) (text "event=") (eventRow fields)
-    (λ so q. ensures-weaker (λ e g. (each-more (EventIn (length fields)) so e (q .0) (g .0), different-row (λ (e : Event). e .name) fields so e (q .1) (g .1))) (event-in fields so))
+    (λ so q. ensures-weaker (λ e g. (each-more (EventIn (length fields)) so e (q .0) (g .0), once-row (λ (e : Event). e .name) fields so e (q .1) (g .1))) (event-in fields so))
     eventLimit [] (λ e i. absurd i, rw (append-nil fields) d)
 
 -- the stages
-stages-in : (used : List Name) → Different used → Ensures (section (text "stage=") (stageRow used) statusLimit []) (λ ss. Stages used ss × (length ss ≤ statusLimit))
+stages-in : (used : List Name) → Once used → Ensures (section (text "stage=") (stageRow used) statusLimit []) (λ ss. Stages used ss × (length ss ≤ statusLimit))
 unfolding statusNames stageRow
 stages-in used d = section-ensures (Stages used) (text "stage=") (stageRow used)
-    (λ so q. ensures-weaker (λ s g. (λ x i. status-up (length so) (length (so ++ (s ∷ []))) x (omega (arith, length-append so (s ∷ []))) (each-more (StatusIn (length so)) so s (q .0) (g .0) x i), different-row (λ (s : Status). s .name) used so s (q .1) (g .1))) (status-in (used ++ statusNames so) so))
+    (λ so q. ensures-weaker (λ s g. (λ x i. status-up (length so) (length (so ++ (s ∷ []))) x (omega (arith, length-append so (s ∷ []))) (each-more (StatusIn (length so)) so s (q .0) (g .0) x i), once-row (λ (s : Status). s .name) used so s (q .1) (g .1))) (status-in (used ++ statusNames so) so))
     statusLimit [] (λ s i. absurd i, rw (append-nil used) d)
 
 -- the miles
-miles-in : (used : List Name) (stages : List Status) (room : ℕ) → Different (used ++ statusNames stages)
+miles-in : (used : List Name) (stages : List Status) (room : ℕ) → Once (used ++ statusNames stages)
     → Ensures (section (text "mile=") (mileRow used stages) room []) (λ ms. Miles used stages ms × (length ms ≤ 0 + room))
 unfolding statusNames mileRow
 miles-in used stages room d = section-ensures (Miles used stages) (text "mile=") (mileRow used stages)
-    (λ so q. ensures-weaker (λ s g. (each-more (StatusIn (length stages)) so s (q .0) (g .0), different-row (λ (s : Status). s .name) (used ++ statusNames stages) so s (q .1) (g .1)))
+    (λ so q. ensures-weaker (λ s g. (each-more (StatusIn (length stages)) so s (q .0) (g .0), once-row (λ (s : Status). s .name) (used ++ statusNames stages) so s (q .1) (g .1)))
     (status-in (used ++ statusNames stages ++ statusNames so) stages))
     room [] (λ s i. absurd i, rw (append-nil (used ++ statusNames stages)) d)
 
