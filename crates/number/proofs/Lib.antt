@@ -4,3 +4,4 @@ pub mod Numbers
 pub mod Entries
 pub mod Ends
 pub mod Callers
+pub mod Only

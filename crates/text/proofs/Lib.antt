@@ -3,3 +3,4 @@ pub mod Packs
 pub mod Steps
 pub mod Pieces
 pub mod Callers
+pub mod Only

@@ -1,5 +1,7 @@
 -- To be read: what document 01 demands.
 pub mod Demands
+-- Contracts that are equations:
+pub mod Determined
 -- Lists:
 pub mod Lists
 pub mod Ascending
