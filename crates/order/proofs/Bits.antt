@@ -1,6 +1,6 @@
 -- The bits of numbers: of `&`, `|` and `^`, of powers of two, of 0 and of the mask of the nodes below n; and masks as sets.
 use Prim.Native.Nat.{ℕ, zero, suc, _+_, _*_, _/_, _%_, _^_, _-_, _≤_, _<_, min, max}
-use mathlib.Core.Path.{_≡_, refl, sym, _∙_, ap, ap₂}
+use mathlib.Core.Path.{_≡_, refl, sym, _∙_, ap}
 use mathlib.Core.Bool.{Bool, true, false, not, cond, _&&_, _||_, false≢true}
 use mathlib.Core.Logic.{_≢_}
 use native.Mathlib.Omega.{arith}
@@ -8,8 +8,8 @@ use native.Mathlib.Nat.{div-div-eq-div-mul, pow-suc, pow-zero, div-one, mul-comm
 use native.Mathlib.Decide.{ℕ-discrete, decLt}
 use lib.Dec.{eqb, ltb, eqb·suc-suc, leb·suc-suc}
 use lib.Pow.{pow-lt, pow-pos}
-use lib.Bits.{bitAnd, bitOr, bitXor, differ, and-step, or-step, xor-step, and-shr, or-shr, xor-shr, and-le-l}
-use borrow.Author.Tests.{eq-eqb, ne-eqb, eqb-true, eqb-false, le-ltb, lt-ltb, ltb-true}
+use lib.Bits.{bitAnd, bitOr, bitXor, differ, and-step, or-step, xor-step, and-shr, or-shr, xor-shr}
+use borrow.Author.Tests.{eq-eqb, ne-eqb, eqb-true, le-ltb, lt-ltb}
 use Rattle.order.specs.Masks.{bitAt, has}
 
 -- a bit, from the lowest on

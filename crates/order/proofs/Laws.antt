@@ -1,7 +1,7 @@
 -- The functions' answers in return form: the premises are what is known at a place, the conclusion is what is asked there.
 use Prim.Native.Nat.{ℕ, zero, suc, _+_, _*_, _/_, _%_, _^_, _-_, _≤_, _<_}
 use mathlib.Core.Path.{_≡_, refl, sym, _∙_, ap, ap₂, subst}
-use mathlib.Core.Bool.{Bool, true, false, not, _&&_, _||_, cond, true≢false, false≢true}
+use mathlib.Core.Bool.{Bool, true, false, not, _&&_, _||_, cond, true≢false}
 use mathlib.Core.List.{List, [], _∷_, _++_}
 use mathlib.Core.Option.{Option, none, some}
 use mathlib.Core.Logic.{inl, inr}
@@ -23,7 +23,8 @@ use Rattle.order.specs.declared.Free.the-variants.{Node, Stuck}
 use Rattle.order.specs.Masks.{bitAt, has, members, maskInto, meet, withBit}
 use Rattle.order.specs.Answers.{asSorting, asFree}
 use Rattle.order.proofs.Bits.{shifted, has-or, has-below}
-use Rattle.order.proofs.Members.{and-left, and-right, keep-yes, keep-no, membersFrom, member-has, members-all, members-step, members-end, members-full, members-without, meet-and}
+use Rattle.order.proofs.Members.{and-left, and-right, keep-yes, keep-no, membersFrom, member-has}
+use Rattle.order.proofs.Members.{members-all, members-step, members-end, members-full, members-without, meet-and}
 
 -- A MASK WITH ONE MORE NODE
 
@@ -116,10 +117,17 @@ free-among into left (x ∷ ks) = go (waits into left x) (firstFree into left ks
     go true (some k) h = inr h
     go false f h = inl refl
 
+-- the first free node of those in the mask; and of those from node i on
+abbrev pub freeOf : List ℕ → ℕ → Option ℕ
+freeOf masks left = firstFree (maskInto masks) (members left) (members left)
+
+abbrev pub freeFrom : List ℕ → ℕ → ℕ → Option ℕ
+freeFrom masks left i = firstFree (maskInto masks) (members left) (membersFrom i left)
+
 -- the search at node i of those below n
 pub record Seeking (masks : List ℕ) (left n i : ℕ) : Type 0 where
   pub within : i ≤ n
-  pub same : firstFree (maskInto masks) (members left) (members left) ≡ firstFree (maskInto masks) (members left) (membersFrom i left)
+  pub same : freeOf masks left ≡ freeFrom masks left i
 
 module _ (masks : List ℕ) (left n : ℕ) where
   pub seek-start : Seeking masks left n 0
@@ -133,27 +141,31 @@ module _ (masks : List ℕ) (left n : ℕ) where
     no-here : i < 64 → has left i ≡ false → membersFrom i left ≡ membersFrom (i + 1) left
     no-here h t = ap (keep (has left)) (members-step left i h) ∙ keep-no (has left) i (from (i + 1) (64 - (i + 1))) t
 
-    pub seek-found : (b : Bool) → n ≤ 64 → i < n → b ≡ has left i && not (meet (getD masks i 0) left) → b ≡ true
-        → Node i ≡ asFree (firstFree (maskInto masks) (members left) (members left))
+    taken : i < 64 → has left i ≡ true → meet (getD masks i 0) left ≡ false → freeFrom masks left i ≡ some i
     unfolding waits meet maskInto
+    taken h t w = ap (firstFree (maskInto masks) (members left)) (yes-here h t) ∙ free-here (maskInto masks) (members left) i (membersFrom (i + 1) left) w
+
+    passed : i < 64 → (a c : Bool) → has left i ≡ a → meet (getD masks i 0) left ≡ c → a && not c ≡ false → freeFrom masks left i ≡ freeFrom masks left (i + 1)
+    unfolding waits meet maskInto
+    passed h true true t w q = ap (firstFree (maskInto masks) (members left)) (yes-here h t) ∙ free-waits (maskInto masks) (members left) i (membersFrom (i + 1) left) w
+    passed h true false t w q = absurd (true≢false q)
+    passed h false c t w q = ap (firstFree (maskInto masks) (members left)) (no-here h t)
+
+    pub seek-found : (b : Bool) → n ≤ 64 → i < n → b ≡ has left i && not (meet (getD masks i 0) left) → b ≡ true → Node i ≡ asFree (freeOf masks left)
     seek-found b h l e t =
         let both : has left i && not (meet (getD masks i 0) left) ≡ true = sym e ∙ t in
-        let free : waits (maskInto masks) (members left) i ≡ false = not-true (meet (getD masks i 0) left) (and-right (has left i) (not (meet (getD masks i 0) left)) both) in
-        sym (ap asFree (s .same ∙ ap (firstFree (maskInto masks) (members left)) (yes-here (omega arith) (and-left (has left i) (not (meet (getD masks i 0) left)) both))
-        ∙ free-here (maskInto masks) (members left) i (membersFrom (i + 1) left) free))
+        let here : has left i ≡ true = and-left (has left i) (not (meet (getD masks i 0) left)) both in
+        let free : meet (getD masks i 0) left ≡ false = not-true _ (and-right (has left i) (not (meet (getD masks i 0) left)) both) in
+        sym (ap asFree (s .same ∙ taken (omega arith) here free))
 
-    pub seek-next : (b : Bool) → n ≤ 64 → i < n → b ≡ has left i && not (meet (getD masks i 0) left) → b ≡ false
-        → (j : ℕ) → j ≡ i + 1 → Seeking masks left n j
-    unfolding waits meet maskInto
-    seek-next b h l e t j z = record { within = omega arith; same = s .same ∙ go (has left i) (meet (getD masks i 0) left) refl refl (sym e ∙ t) ∙ ap (λ x. firstFree (maskInto masks) (members left) (membersFrom x left)) (sym z) }
-      where
-        go : (a c : Bool) → has left i ≡ a → meet (getD masks i 0) left ≡ c → a && not c ≡ false
-            → firstFree (maskInto masks) (members left) (membersFrom i left) ≡ firstFree (maskInto masks) (members left) (membersFrom (i + 1) left)
-        go true true x y q = ap (firstFree (maskInto masks) (members left)) (yes-here (omega arith) x) ∙ free-waits (maskInto masks) (members left) i (membersFrom (i + 1) left) y
-        go true false x y q = absurd (true≢false q)
-        go false c x y q = ap (firstFree (maskInto masks) (members left)) (no-here (omega arith) x)
+    pub seek-next : (b : Bool) → n ≤ 64 → i < n → b ≡ has left i && not (meet (getD masks i 0) left) → b ≡ false → (j : ℕ) → j ≡ i + 1 → Seeking masks left n j
+    seek-next b h l e t j z =
+        record {
+          within = omega arith;
+          same = s .same ∙ passed (omega arith) (has left i) (meet (getD masks i 0) left) refl refl (sym e ∙ t) ∙ ap (freeFrom masks left) (sym z);
+        }
 
-    pub seek-end : left < 2 ^ n → n ≤ i → Stuck ≡ asFree (firstFree (maskInto masks) (members left) (members left))
+    pub seek-end : left < 2 ^ n → n ≤ i → Stuck ≡ asFree (freeOf masks left)
     unfolding firstFree
     seek-end h l = sym (ap asFree (s .same ∙ ap (firstFree (maskInto masks) (members left)) (members-end left n i h l)))
 
@@ -198,7 +210,8 @@ blank (suc n) (suc m) = ap (λ k. replicate k 0) (less n m) ∙ blank n m
 -- one node more
 placed-more : (order : List ℕ) (len k : ℕ) → len < length order → (x : Option (List ℕ)) → placed len order (then k x) ≡ placed (len + 1) (set order len k) x
 placed-more order len k h none = refl
-placed-more order len k h (some o) = ap (λ l. record { found = true; order = l }) (sym (front ∙ append-snoc (take len order) k (o ++ drop (len + length (k ∷ o)) order)))
+placed-more order len k h (some o) =
+    ap (λ l. record { found = true; order = l }) (sym (front ∙ append-snoc (take len order) k (o ++ drop (len + length (k ∷ o)) order)))
   where
     z : len + 1 + length o ≡ len + length (k ∷ o)
     z = omega arith
@@ -206,7 +219,8 @@ placed-more order len k h (some o) = ap (λ l. record { found = true; order = l 
     back : drop (len + 1 + length o) (set order len k) ≡ drop (len + length (k ∷ o)) order
     back = drop-set-lt (len + 1 + length o) order len k (omega arith) ∙ ap (λ m. drop m order) z
 
-    front : take (len + 1) (set order len k) ++ (o ++ drop (len + 1 + length o) (set order len k)) ≡ take len order ++ (k ∷ []) ++ (o ++ drop (len + length (k ∷ o)) order)
+    front : take (len + 1) (set order len k) ++ (o ++ drop (len + 1 + length o) (set order len k))
+        ≡ take len order ++ (k ∷ []) ++ (o ++ drop (len + length (k ∷ o)) order)
     front = ap₂ (λ a b. a ++ (o ++ b)) (ap (λ m. take m (set order len k)) (add-one len) ∙ take-suc-set order len k h) back
 
 module _ (masks : List ℕ) (n : ℕ) where
@@ -219,7 +233,8 @@ module _ (masks : List ℕ) (n : ℕ) where
         within = omega arith;
         below = omega arith;
         held = refl;
-        same = go (orderFor n (maskInto masks)) ∙ ap₂ (λ m l. placed 0 (replicate 64 0) (orderOf (maskInto masks) m l)) (sym z) (sym (ap members e ∙ members-full n h));
+        same = go (orderFor n (maskInto masks))
+            ∙ ap₂ (λ m l. placed 0 (replicate 64 0) (orderOf (maskInto masks) m l)) (sym z) (sym (ap members e ∙ members-full n h));
       }
     where
       go : (x : Option (List ℕ)) → asSorting x ≡ placed 0 (replicate 64 0) x
@@ -229,53 +244,52 @@ module _ (masks : List ℕ) (n : ℕ) where
           ap (λ r. record { found = true; order = o ++ r }) (blank (length o) 64 ∙ ap (λ m. drop m (replicate 64 0)) z)
 
   module _ (left : ℕ) (order : List ℕ) (len : ℕ) (s : Going masks n left order len) where
-    -- the whole, where nodes are left
-    one-left : len < n → asSorting (orderFor n (maskInto masks)) ≡ placed len order
-        (first (firstFree (maskInto masks) (members left) (members left)) (λ k. orderOf (maskInto masks) (n - (len + 1)) (without k (members left))))
+    -- the order from what the search finds, and the whole where nodes are left
+    abbrev onward : Option ℕ → Option (List ℕ)
+    onward f = first f (λ k. orderOf (maskInto masks) (n - (len + 1)) (without k (members left)))
+
+    one-left : len < n → asSorting (orderFor n (maskInto masks)) ≡ placed len order (onward (freeOf masks left))
     unfolding orderOf
     one-left l =
         let z : n - len ≡ suc (n - (len + 1)) = omega arith in
         s .same ∙ ap (λ m. placed len order (orderOf (maskInto masks) m (members left))) z
 
-    pub going-stuck : (p : Free) → len < n → p ≡ asFree (firstFree (maskInto masks) (members left) (members left)) → p ≡ Stuck
+    pub going-stuck : (p : Free) → len < n → p ≡ asFree (freeOf masks left) → p ≡ Stuck
         → _≡_ {A = Sorting} (record { found = false; order = replicate 64 0 }) (asSorting (orderFor n (maskInto masks)))
-    going-stuck p l e t =
-        let f : firstFree (maskInto masks) (members left) (members left) ≡ none = answered _ p e ∙ ap nodeOf t in
-        sym (one-left l ∙ ap (λ f. placed len order (first f (λ k. orderOf (maskInto masks) (n - (len + 1)) (without k (members left))))) f)
+    going-stuck p l e t = sym (one-left l ∙ ap (λ f. placed len order (onward f)) (answered (freeOf masks left) p e ∙ ap nodeOf t))
 
-    node-is : (p : Free) (k : ℕ) → p ≡ asFree (firstFree (maskInto masks) (members left) (members left)) → p ≡ Node k
-        → firstFree (maskInto masks) (members left) (members left) ≡ some k
-    node-is p k e t = answered _ p e ∙ ap nodeOf t
+    -- a node was found: it is in the mask
+    module _ (p : Free) (k : ℕ) (e : p ≡ asFree (freeOf masks left)) (t : p ≡ Node k) (h : n ≤ 64) where
+      node-is : freeOf masks left ≡ some k
+      node-is = answered (freeOf masks left) p e ∙ ap nodeOf t
 
-    node-has : (p : Free) (k : ℕ) → p ≡ asFree (firstFree (maskInto masks) (members left) (members left)) → p ≡ Node k → has left k ≡ true
-    node-has p k e t = member-has left k (subst (Among (members left)) (node-is p k e t) (free-among (maskInto masks) (members left) (members left)))
+      node-has : has left k ≡ true
+      node-has = member-has left k (subst (Among (members left)) node-is (free-among (maskInto masks) (members left) (members left)))
 
-    pub going-below : (p : Free) (k : ℕ) → p ≡ asFree (firstFree (maskInto masks) (members left) (members left)) → p ≡ Node k → k < n
-    going-below p k e t = has-below left n k (s .below) (node-has p k e t)
+      node-below : k < n
+      node-below = has-below left n k (s .below) node-has
 
-    pub going-shifts : (p : Free) (k : ℕ) → p ≡ asFree (firstFree (maskInto masks) (members left) (members left)) → p ≡ Node k → n ≤ 64 → k < 64
-    going-shifts p k e t h = let b : k < n = going-below p k e t in omega arith
+      pub going-shifts : k < 64
+      going-shifts = omega (arith, node-below)
 
-    pub going-fits : (p : Free) (k : ℕ) → p ≡ asFree (firstFree (maskInto masks) (members left) (members left)) → p ≡ Node k → n ≤ 64 → Fits w8 k
-    going-fits p k e t h = let b : k < n = going-below p k e t in omega arith
+      pub going-fits : Fits w8 k
+      going-fits = omega (arith, node-below)
 
-    pub going-next : (p : Free) (k : ℕ) → n ≤ 64 → len < n → p ≡ asFree (firstFree (maskInto masks) (members left) (members left)) → p ≡ Node k
-        → (left′ : ℕ) (order′ : List ℕ) (len′ : ℕ) → left′ ≡ bitXor left (1 * 2 ^ k % 18446744073709551616) → order′ ≡ set order len k → len′ ≡ len + 1
-        → Going masks n left′ order′ len′
-    going-next p k h l e t left′ order′ len′ x y z =
-        let b : k < n = going-below p k e t in
-        let o : length order ≡ 64 = s .held in
-        let x′ : left′ ≡ bitXor left (2 ^ k) = x ∙ ap (bitXor left) (shifted k (omega arith)) in
-        record {
-          within = omega arith;
-          below = rw x′ (xor-lt n left (2 ^ k) (s .below) (pow-lt b));
-          held = ap length y ∙ length-set order len k ∙ o;
-          same = one-left l
-              ∙ ap (λ f. placed len order (first f (λ k. orderOf (maskInto masks) (n - (len + 1)) (without k (members left))))) (node-is p k e t)
-              ∙ placed-more order len k (omega arith) (orderOf (maskInto masks) (n - (len + 1)) (without k (members left)))
-              ∙ ap (λ l. placed (len + 1) (set order len k) (orderOf (maskInto masks) (n - (len + 1)) l)) (members-without left k (node-has p k e t) ∙ ap members (sym x′))
-              ∙ ap₂ (λ m r. placed m r (orderOf (maskInto masks) (n - m) (members left′))) (sym z) (sym y);
-        }
+      pub going-next : len < n → (left′ : ℕ) (order′ : List ℕ) (len′ : ℕ)
+          → left′ ≡ bitXor left (1 * 2 ^ k % 18446744073709551616) → order′ ≡ set order len k → len′ ≡ len + 1 → Going masks n left′ order′ len′
+      going-next l left′ order′ len′ x y z =
+          let o : length order ≡ 64 = s .held in
+          let x′ : left′ ≡ bitXor left (2 ^ k) = x ∙ ap (bitXor left) (shifted k going-shifts) in
+          record {
+            within = omega arith;
+            below = rw x′ (xor-lt n left (2 ^ k) (s .below) (pow-lt node-below));
+            held = ap length y ∙ length-set order len k ∙ o;
+            same = one-left l
+                ∙ ap (λ f. placed len order (onward f)) node-is
+                ∙ placed-more order len k (omega arith) (orderOf (maskInto masks) (n - (len + 1)) (without k (members left)))
+                ∙ ap (λ l. placed (len + 1) (set order len k) (orderOf (maskInto masks) (n - (len + 1)) l)) (members-without left k node-has ∙ ap members (sym x′))
+                ∙ ap₂ (λ m r. placed m r (orderOf (maskInto masks) (n - m) (members left′))) (sym z) (sym y);
+          }
 
     pub going-end : n ≤ len → _≡_ {A = Sorting} (record { found = true; order = order }) (asSorting (orderFor n (maskInto masks)))
     unfolding orderOf

@@ -1,17 +1,16 @@
 -- Masks as lists of nodes: their members, what two of them have in common, and a mask with a node taken away.
-use Prim.Native.Nat.{ℕ, zero, suc, _+_, _*_, _/_, _%_, _^_, _-_, _≤_, _<_, min}
+use Prim.Native.Nat.{ℕ, zero, suc, _+_, _^_, _-_, _≤_, _<_}
 use mathlib.Core.Path.{_≡_, refl, sym, _∙_, ap}
 use mathlib.Core.Bool.{Bool, true, false, not, _&&_, false≢true}
 use mathlib.Core.List.{List, [], _∷_}
 use native.Mathlib.Omega.{arith}
 use native.Mathlib.Numerals.{add-one}
 use lib.Dec.{eqb, ltb}
-use lib.ListN.{getD}
 use lib.Bits.{bitAnd, bitXor, and-le-l}
-use borrow.Author.Tests.{eq-eqb, eqb-true, eqb-false, lt-ltb, le-ltb}
-use Rattle.meaning.specs.Text.{In, any, keep, isIn, from}
+use borrow.Author.Tests.{eqb-true, eqb-false, lt-ltb, le-ltb}
+use Rattle.meaning.specs.Text.{In, keep, isIn, from}
 use Rattle.meaning.specs.Graph.{without}
-use Rattle.theory.specs.Lists.{in-keep, keep-in, in-any, is-in, in-is, common, in-from, from-in}
+use Rattle.theory.specs.Lists.{in-keep, keep-in, in-any, is-in, in-is, common, in-from}
 use Rattle.order.specs.Masks.{has, members, meet}
 use Rattle.order.proofs.Bits.{has-none, has-some, has-and, has-full, has-xor, has-high}
 

@@ -1,7 +1,8 @@
+-- `order::first_free` answers the first free node. The loop: the first among all that are left is the first among those from the cursor on.
+-- Assumes nothing.
 use borrow.Author.Needs.{needs}
 use Prim.Native.Nat.{_-_}
-use Rattle.order.proofs.Laws.{Seeking}
-use Rattle.order.proofs.Laws.{seeking}
+use Rattle.order.proofs.Laws.{Seeking, seeking}
 use Rattle.order.proofs.first_free.Statement.{statement}
 use Rattle.order.proofs.first_free.Tie as tie
 

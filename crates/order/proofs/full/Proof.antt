@@ -1,3 +1,5 @@
+-- `order::full` answers the mask of the nodes below n: all ones, or a power of two less one.
+-- Assumes nothing.
 use borrow.Author.Needs.{needs}
 use Rattle.order.proofs.Laws.{filling}
 use Rattle.order.proofs.full.Statement.{statement}

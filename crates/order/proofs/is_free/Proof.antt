@@ -1,3 +1,5 @@
+-- `order::is_free` tells whether a node is left and waits for none that is left: its bit is set, and two masks have no node in common where `&` is 0.
+-- Assumes nothing.
 use borrow.Author.Needs.{needs}
 use Rattle.order.proofs.Laws.{freeing}
 use Rattle.order.proofs.is_free.Statement.{statement}

@@ -1,7 +1,8 @@
+-- `order::sort` answers the order that the meaning takes. The loop: the order of the nodes left, written behind what stands in the array, is the whole.
+-- Assumes nothing.
 use borrow.Author.Needs.{needs}
 use Prim.Native.Nat.{_-_}
-use Rattle.order.proofs.Laws.{Going}
-use Rattle.order.proofs.Laws.{going}
+use Rattle.order.proofs.Laws.{Going, going}
 use Rattle.order.proofs.sort.Statement.{statement}
 use Rattle.order.proofs.sort.Tie as tie
 

@@ -1,3 +1,5 @@
+-- `order::with_bit` answers the mask with one node more: `|` with a power of two sets one bit; from 64 on there is none to set.
+-- Assumes nothing.
 use borrow.Author.Needs.{needs}
 use Rattle.order.proofs.Laws.{adding}
 use Rattle.order.proofs.with_bit.Statement.{statement}
