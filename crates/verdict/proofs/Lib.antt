@@ -1,0 +1,2 @@
+-- Laws of the machine's functions:
+pub mod Steps
