@@ -78,7 +78,7 @@ turned-polar w true false₃ e = rw e
 turned-polar w true unknown e = rw e
 turned-polar w true true₃ e = rw e
 
-bit-small : (b : Bool) → bit b ≤ 1
+pub bit-small : (b : Bool) → bit b ≤ 1
 bit-small false = lit≤ tt
 bit-small true = lit≤ tt
 
