@@ -6,3 +6,5 @@ pub mod Value
 -- How long the flat form is, and that whatever is read as a condition fits:
 pub mod Size
 pub mod Readable
+-- What callers use of it:
+pub mod Callers

@@ -1,6 +1,6 @@
 -- Whatever is read as a condition fits: places lie in the tables, which are short, numbers lie on the scale, and the reader counts nots and groups.
-use Prim.Native.Nat.{ℕ, zero, suc, _+_, _-_, _≤_, _<_}
-use mathlib.Core.Path.{_≡_, refl, sym, subst}
+use Prim.Native.Nat.{ℕ, zero, suc, _+_, _-_, _≤_}
+use mathlib.Core.Path.{_≡_, sym, subst}
 use mathlib.Core.Bool.{Bool, true, false, cond}
 use mathlib.Core.List.{List, [], _∷_, _++_}
 use mathlib.Core.Option.{Option, none, some, Option·none-ne-some, Option·some-injective}
@@ -19,7 +19,7 @@ use Rattle.meaning.specs.ReadCondition.{operator, named, readLeaf, readAnd, rea
 use Rattle.theory.specs.Lists.{in-cases}
 use Rattle.theory.specs.Readers.{Ensures, give-ensures, refuse-ensures, choose-ensures, bind-ensures, any-ensures, ensures-weaker, ensures-both}
 use Rattle.theory.specs.Entries.{number-wrote, digits-range, digit-first, place-some}
-use Rattle.theory.specs.Conditions.{LeafIn, LeavesIn, condition-in}
+use Rattle.theory.specs.Conditions.{LeafIn, condition-in}
 use Rattle.verdict.specs.Fits.{DeepC, DeepA, DeepI, OnScale, Fits}
 
 -- NUMBERS

@@ -1,16 +1,16 @@
 -- The machine on the words of a condition ends on the condition's value.
-use Prim.Native.Nat.{ℕ, zero, suc, _+_, _*_, _%_, _≤_, _<_}
-use mathlib.Core.Path.{_≡_, refl, sym, ap, _∙_}
+use Prim.Native.Nat.{ℕ, zero, suc, _+_, _*_, _≤_, _<_}
+use mathlib.Core.Path.{_≡_, refl, ap, _∙_}
 use mathlib.Core.Bool.{Bool, true, false, not}
-use mathlib.Core.List.{List, [], _∷_, _++_, append-assoc, append-nil}
+use mathlib.Core.List.{List, [], _++_, append-assoc, append-nil}
 use mathlib.Core.Logic.{inl}
 use native.Mathlib.Omega.{arith}
 use Rattle.meaning.specs.Kleene.{Kleene, true₃, false₃, unknown, and₃, or₃}
 use Rattle.meaning.specs.Condition.{Leaf, Cond, And, Item, leavesC, leavesA, leavesI, valueC, valueA, valueI}
 use Rattle.theory.specs.Lists.{in-left, in-right}
 use Rattle.theory.specs.Conditions.{LeavesIn}
-use Rattle.verdict.specs.Flat.{bit, join, leafWord, wordsC, wordsA, wordsI, words}
-use Rattle.verdict.specs.Machine.{num, statusIn, fieldIn, stepOf, run, verdictOf}
+use Rattle.verdict.specs.Flat.{bit, join, wordsC, wordsA, wordsI, words}
+use Rattle.verdict.specs.Machine.{num, statusIn, fieldIn, run, verdictOf}
 use Rattle.verdict.specs.Fits.{DeepC, DeepA, DeepI, Fits}
 use Rattle.verdict.proofs.Words.{polar, polar-not, num-small, leaf-step, all-step, any-step}
 

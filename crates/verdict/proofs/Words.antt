@@ -1,5 +1,5 @@
 -- Words taken apart, and what each does to the stack: a leaf's word puts the leaf's value there, a join's word puts two values together.
-use Prim.Native.Nat.{ℕ, zero, suc, _+_, _*_, _-_, _/_, _%_, _≤_, _<_, min, max}
+use Prim.Native.Nat.{ℕ, zero, suc, _+_, _*_, _/_, _%_, _≤_, _<_, min, max}
 use mathlib.Core.Path.{_≡_, refl, sym, ap, _∙_}
 use mathlib.Core.Bool.{Bool, true, false, cond, not}
 use mathlib.Core.List.{List}
@@ -9,11 +9,10 @@ use lib.ListN.{getD}
 use lib.Dec.{ltb, leb, eqb, lit<, lit≤, leb·suc-suc, eqb·suc-suc, eqb·suc-zero}
 use borrow.Author.Tests.{ltb-true, ltb-false, lt-leb, le-leb, le-ltb}
 use Rattle.meaning.specs.Kleene.{Kleene, true₃, false₃, unknown, known₃, not₃, and₃, or₃}
-use Rattle.meaning.specs.Number.{Value, missing, number-at}
 use Rattle.meaning.specs.Condition.{Operator, below, atMost, equal, atLeast, above, answers, compared, Leaf, valueL}
 use Rattle.theory.specs.Conditions.{LeafIn}
 use Rattle.verdict.specs.Flat.{word, bit, comparisonWord, leafWord}
-use Rattle.verdict.specs.Machine.{num, markOf, valueOf, statusIn, fieldIn, rawOf, turned, joinedOf, stepOf}
+use Rattle.verdict.specs.Machine.{num, valueOf, statusIn, fieldIn, rawOf, turned, joinedOf, stepOf}
 
 -- KLEENE'S TABLES
 
