@@ -22,8 +22,8 @@ stored was top (wrong n l) = take top was ++ replicate (length was - top) 0
 
 -- what a caller sees to: room for the words of all 512 leaves
 pub record Ready (statuses fields was : List ℕ) (top leaves : ℕ) : Type 0 where
-  pub statuses : length statuses ≤ 32
-  pub fields : length fields ≤ 16
-  pub leaves : leaves ≤ 512
-  pub top : top ≤ 2 * leaves
+  pub few-statuses : length statuses ≤ 32
+  pub few-fields : length fields ≤ 16
+  pub few-leaves : leaves ≤ 512
+  pub few-words : top ≤ 2 * leaves
   pub room : 1024 ≤ length was
