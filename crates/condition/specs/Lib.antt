@@ -1,3 +1,4 @@
--- The flat form of conditions, and what the code answers for what the meaning reads:
+-- The flat form of conditions, what the code answers for what the meaning reads, and what its private readers answer:
 pub mod Flat
 pub mod Answers
+pub mod Parts

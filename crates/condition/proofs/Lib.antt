@@ -1,0 +1,5 @@
+-- Laws of reading conditions: what each reader may find, its words, and the returns of the code's readers.
+pub mod Told
+pub mod Finds
+pub mod Kept
+pub mod Listed
