@@ -1,12 +1,13 @@
 // Pieces of text: fixed texts, names, and names looked up in a table. A name is kept as one number, its symbols packed.
 ghost use mathlib.Core.Path.{_≡_};
 ghost use mathlib.Core.List.{map};
-ghost use Prim.Native.Nat.{_-_};
+ghost use mathlib.Core.Bool.{true};
+ghost use Prim.Native.Nat.{_-_, _≤_, _<_};
 ghost use lib.ListN.{take, drop};
-ghost use Rattle.meaning.specs.Text.{begins, run};
+ghost use Rattle.meaning.specs.Text.{begins, run, isIn};
 ghost use Rattle.meaning.specs.Reading.{due};
-ghost use Rattle.meaning.specs.Name.{letter, nameByte, name, newName, dueName, known};
-ghost use Rattle.text.specs.Packed.{packed, named};
+ghost use Rattle.meaning.specs.Name.{letter, nameByte, reserved, name, newName, dueName, known};
+ghost use Rattle.text.specs.Packed.{symbol, packed, named};
 ghost use Rattle.text.specs.Answers.{asBytes, asName, asKnown, foundIn};
 
 // A piece whose text is known: how many bytes it took, or the refusal's number.
@@ -36,6 +37,19 @@ pub enum Found {
 // How many symbols a name may have.
 const NAME_BYTES: usize = 12;
 
+// The reserved words, packed: the letters a to z are the symbols 1 to 26.
+const ON: u64 = 15 + 38 * 14;
+
+const IF: u64 = 9 + 38 * 6;
+
+const OR: u64 = 15 + 38 * 18;
+
+const AND: u64 = 1 + 38 * (14 + 38 * 4);
+
+const NOT: u64 = 14 + 38 * (15 + 38 * 20);
+
+const END: u64 = 5 + 38 * (14 + 38 * 4);
+
 fn is_letter(b: u8) -> bool
     ensures { λ r. ⌜ r ≡ letter b ⌝ }
 {
@@ -60,6 +74,56 @@ fn name_run(s: &[u8]) -> usize
         i += 1;
     }
     i
+}
+
+// The symbol of a name byte.
+fn symbol_of(b: u8) -> u64
+    requires { ⌜ nameByte b ≡ true ⌝ }
+    ensures { λ r. ⌜ (r ≡ symbol b) × (r < 38) ⌝ }
+{
+    if b'a' <= b {
+        return (b - 96) as u64;
+    }
+    (b - 21) as u64
+}
+
+// The first `n` bytes of `s`, its longest run of name bytes, packed: from the last one backwards, so that the first is the lowest.
+fn pack(s: &[u8], n: usize) -> u64
+    requires { ⌜ (n ≡ run nameByte (now s)) × (n ≤ 12) ⌝ }
+    ensures { λ r. ⌜ r ≡ packed (take n (now (s .entry))) ⌝ }
+{
+    let mut w = 0;
+    let mut i = n;
+    while 0 < i {
+        i -= 1;
+        w = symbol_of(s[i]) + 38 * w;
+    }
+    w
+}
+
+// Whether the packed name is a reserved word.
+fn is_reserved(w: u64) -> bool
+    ensures { λ r. ⌜ r ≡ isIn w (map packed reserved) ⌝ }
+{
+    if w == ON {
+        return true;
+    }
+    if w == IF {
+        return true;
+    }
+    if w == OR {
+        return true;
+    }
+    if w == AND {
+        return true;
+    }
+    if w == NOT {
+        return true;
+    }
+    if w == END {
+        return true;
+    }
+    false
 }
 
 // Whether `s` begins with `k`.
@@ -113,7 +177,7 @@ pub fn name_piece(s: &[u8]) -> NamePiece
         return NamePiece::Refused(3);
     }
     let n = name_run(s);
-    if 12 < n {
+    if NAME_BYTES < n {
         return NamePiece::Refused(3);
     }
     let w = pack(s, n);
@@ -149,10 +213,10 @@ pub fn known_name(s: &[u8], names: &[u64], from: usize, to: usize) -> Known
         NamePiece::Refused(k) => Known::Refused(k),
         NamePiece::Name(w, n) => {
             let f = find(names, from, to, w);
-            match f {
-                Found::Nothing => Known::Refused(3),
-                Found::At(i) => Known::At(i, n),
-            }
+            let Found::At(i) = f else {
+                return Known::Refused(3);
+            };
+            Known::At(i, n)
         }
     }
 }

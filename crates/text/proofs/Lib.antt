@@ -1,0 +1,4 @@
+pub mod Laws
+pub mod Packs
+pub mod Pieces
+pub mod Callers

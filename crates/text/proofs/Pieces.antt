@@ -1,0 +1,271 @@
+-- The readers of names and fixed texts, as the code answers them.
+use mathlib.Core.Path.{_≡_, refl, ap, sym, _∙_}
+use mathlib.Core.Bool.{Bool, true, false, cond, not, _&&_, _||_, and-false, true≢false, false≢true}
+use mathlib.Core.List.{List, [], _∷_, map}
+use mathlib.Core.Option.{Option, none, some}
+use Prim.Native.Nat.{ℕ, zero, suc, _+_, _-_, _<_, _≤_}
+use native.Mathlib.Omega.{arith}
+use borrow.Author.Tests.{not-true, not-false, leb-true, le-leb, lt-leb, eq-eqb, ne-eqb}
+use lib.Dec.{eqb, leb}
+use lib.ListN.{length, drop, take, getD, length-drop}
+use lib.Seq.{length-take-le}
+use Rattle.meaning.specs.Text.{run, begins, same, among, find, later, any, isIn}
+use Rattle.meaning.specs.Reading.{Got, got, wrong, notEnded, stands, due, longest, choose}
+use Rattle.meaning.specs.Name.{letter, digit, nameByte, reserved, goodName, name, newName, dueName, known, placed}
+use Rattle.text.specs.declared.Bytes.{Bytes}
+use Rattle.text.specs.declared.Bytes.the-variants as B
+use Rattle.text.specs.declared.NamePiece.{NamePiece}
+use Rattle.text.specs.declared.NamePiece.the-variants as N
+use Rattle.text.specs.declared.Known.{Known}
+use Rattle.text.specs.declared.Known.the-variants as K
+use Rattle.text.specs.declared.Found.{Found}
+use Rattle.text.specs.declared.Found.the-variants as F
+use Rattle.text.specs.Packed.{packed, named}
+use Rattle.text.specs.Answers.{asBytes, asName, asKnown, foundIn, further}
+use Rattle.text.proofs.Laws.{run-cons, run-halt, run-le, begins-fits}
+use Rattle.text.proofs.Packs.{Plain, Short, plain-run, length-run, same-named, reserved-named, among-named, find-named, placeOf, and-both}
+
+-- the longest run of name bytes
+abbrev pub word : List ℕ → List ℕ
+word t = take (run nameByte t) t
+
+-- what a name is read as
+pub name-ended : (l : ℕ) (t : List ℕ) → length t ≡ 0 → name l t ≡ wrong 2 l
+unfolding name notEnded
+name-ended l [] h = refl
+name-ended l (x ∷ t) h = absurd (omega arith)
+
+pub name-is : (l : ℕ) (t : List ℕ) (b : Bool) → (length t ≡ 0 → ⊥) → goodName (word t) ≡ b
+    → name l t ≡ cond b (got (word t) l (drop (run nameByte t) t)) (wrong 3 l)
+unfolding name notEnded longest
+name-is l [] b h e = absurd (h refl)
+name-is l (x ∷ t) true h e = rw e
+name-is l (x ∷ t) false h e = rw e
+
+-- a name is good where it begins with a letter, is short and is not reserved
+not-letter : (x : ℕ) → nameByte x ≡ false → letter x ≡ false
+not-letter x = go (letter x) (digit x)
+  where
+    go : (a b : Bool) → (a || b) ≡ false → a ≡ false
+    go true b e = e
+    go false b e = refl
+
+good-is : (t : List ℕ) → goodName (word t) ≡ (letter (getD t 0 0) && leb (run nameByte t) 12 && not (among (word t) reserved))
+unfolding goodName run
+good-is [] = refl
+good-is (x ∷ t) = go (nameByte x) refl
+  where
+    go : (b : Bool) → nameByte x ≡ b
+        → goodName (word (x ∷ t)) ≡ (letter x && leb (run nameByte (x ∷ t)) 12 && not (among (word (x ∷ t)) reserved))
+    go true e = rw (run-cons nameByte x t e, length-run t (run nameByte t) refl)
+    go false e = rw (run-halt nameByte x t e, not-letter x e)
+
+pub word-short : (t : List ℕ) → run nameByte t ≤ 12 → Short (word t)
+word-short t h = record { plain = plain-run t; short = omega (arith, length-run t (run nameByte t) refl) }
+
+-- the returns of name_piece
+pub piece-ended : (t : List ℕ) → length t ≡ 0 → N.Refused 2 ≡ asName (name 0 t)
+piece-ended t h = rw (name-ended 0 t h)
+
+bad-piece : (t : List ℕ) → (length t ≡ 0 → ⊥) → goodName (word t) ≡ false → N.Refused 3 ≡ asName (name 0 t)
+bad-piece t h e = rw (name-is 0 t false h e)
+
+module _ (t : List ℕ) (some : length t ≡ 0 → ⊥) where
+  pub piece-letter : (b : Bool) → b ≡ letter (getD t 0 0) → not b ≡ true → N.Refused 3 ≡ asName (name 0 t)
+  piece-letter b e q = bad-piece t some (good-is t ∙ rw (← e, not-true b q))
+
+  module _ (n : ℕ) (is : n ≡ run nameByte t) where
+    pub piece-long : 12 < n → N.Refused 3 ≡ asName (name 0 t)
+    piece-long h = bad-piece t some (good-is t ∙ rw (← is, lt-leb n 12 h) (go (letter (getD t 0 0))))
+      where
+        go : (b : Bool) → (b && false && not (among (take n t) reserved)) ≡ false
+        go true = refl
+        go false = refl
+
+    module _ (short : n ≤ 12) (v : ℕ) (number : v ≡ packed (take n t)) (b : Bool) (word-is : b ≡ isIn v (map packed reserved)) where
+      among-is : among (word t) reserved ≡ b
+      among-is = reserved-named (word t) (word-short t (omega arith)) ∙ rw (← is, ← number) (sym word-is)
+
+      pub piece-reserved : b ≡ true → N.Refused 3 ≡ asName (name 0 t)
+      piece-reserved q = bad-piece t some (good-is t ∙ rw (among-is, q) (and-false (letter (getD t 0 0) && leb (run nameByte t) 12)))
+
+      pub piece-good : b ≡ false → (a : Bool) → a ≡ letter (getD t 0 0) → not a ≡ false → N.Name v n ≡ asName (name 0 t)
+      piece-good q a e f =
+          let good : goodName (word t) ≡ true = good-is t ∙ rw (among-is, q, ← e, not-false a f, ← is, le-leb n 12 short) in
+          rw (name-is 0 t true some good, ← is, length-run t n is, number)
+
+pub ruleset piecing = (piece-ended, piece-letter, piece-long, piece-reserved, piece-good)
+
+-- the first n bytes of t are the name that stands there
+pub record Spelt (t : List ℕ) (n : ℕ) : Type 0 where
+  pub good : goodName (take n t) ≡ true
+  pub short : Short (take n t)
+  pub within : n ≤ length t
+  pub some : 1 ≤ n
+  pub few : n ≤ 12
+  pub reads : (l : ℕ) → name l t ≡ got (take n t) l (drop n t)
+
+pub data View (t : List ℕ) : Type 0 where
+  isName : (n : ℕ) → Spelt t n → View t
+  isWrong : (k : ℕ) → ((l : ℕ) → name l t ≡ wrong k l) → View t
+
+good-size : (w : List ℕ) → goodName w ≡ true → (1 ≤ length w) × (length w ≤ 12)
+unfolding goodName
+good-size [] e = absurd (false≢true e)
+good-size (x ∷ w) e = (omega arith, leb-true (length (x ∷ w)) 12 (and-both (letter x) _ (and-both (letter x && leb (length (x ∷ w)) 12) _ e .0) .1))
+
+pub view : (t : List ℕ) → View t
+view [] = isWrong 2 (λ l. name-ended l [] refl)
+view (x ∷ t) = go (goodName (word (x ∷ t))) refl
+  where
+    some : length (x ∷ t) ≡ 0 → ⊥
+    some h = omega arith
+
+    go : (b : Bool) → goodName (word (x ∷ t)) ≡ b → View (x ∷ t)
+    go true e =
+        let size = good-size (word (x ∷ t)) e in
+        let l = length-run (x ∷ t) (run nameByte (x ∷ t)) refl in
+        isName (run nameByte (x ∷ t)) record {
+          good = e;
+          short = record { plain = plain-run (x ∷ t); short = size .1 };
+          within = run-le nameByte (x ∷ t);
+          some = omega arith;
+          few = omega arith;
+          reads = λ l. name-is l (x ∷ t) true some e;
+        }
+    go false e = isWrong 3 (λ l. name-is l (x ∷ t) false some e)
+
+-- a place was found
+abbrev isPlace : Option ℕ → Bool
+isPlace none = false
+isPlace (some i) = true
+
+taken-length : (t : List ℕ) (n : ℕ) → n ≤ length t → length t - length (drop n t) ≡ n
+taken-length t n h = simp length-drop (omega arith)
+
+among-place : (w : List ℕ) (ks : List (List ℕ)) → among w ks ≡ isPlace (find w ks)
+unfolding among find
+among-place w [] = refl
+among-place w (k ∷ ks) = go (same w k) refl (find w ks) (among-place w ks)
+  where
+    go : (b : Bool) → same w k ≡ b → (o : Option ℕ) → among w ks ≡ isPlace o → (b || among w ks) ≡ isPlace (elim b [ true ↦ some 0 | false ↦ later o ])
+    go true e o ih = refl
+    go false e none ih = ih
+    go false e (some i) ih = ih
+
+-- what name_piece told
+module _ (p : NamePiece) (t : List ℕ) (is : p ≡ asName (name 0 t)) where
+  pub name-spelt : (v n : ℕ) → p ≡ N.Name v n → Spelt t n × (v ≡ packed (take n t))
+  name-spelt v n e = go (view t)
+    where
+      go : View t → Spelt t n × (v ≡ packed (take n t))
+      go (isName m s) =
+          let q : asName (name 0 t) ≡ N.Name (packed (take m t)) (length (take m t)) = rw (s .reads 0) in
+          let a : v ≡ packed (take m t) = cc in
+          let b : n ≡ length (take m t) = cc in
+          let z : n ≡ m = omega (arith, length-take-le m t (s .within)) in
+          rw z (s, a)
+      go (isWrong k s) =
+          let q : asName (name 0 t) ≡ N.Refused k = rw (s 0) in
+          let z : _≡_ {A = ℕ} 0 1 = cc in
+          absurd (omega arith)
+
+  pub name-wrong : (k : ℕ) → p ≡ N.Refused k → (l : ℕ) → name l t ≡ wrong k l
+  name-wrong k e l = go (view t)
+    where
+      go : View t → name l t ≡ wrong k l
+      go (isName m s) =
+          let q : asName (name 0 t) ≡ N.Name (packed (take m t)) (length (take m t)) = rw (s .reads 0) in
+          let z : _≡_ {A = ℕ} 0 1 = cc in
+          absurd (omega arith)
+      go (isWrong j s) =
+          let q : asName (name 0 t) ≡ N.Refused j = rw (s 0) in
+          let z : k ≡ j = cc in
+          rw z (s l)
+
+  -- the returns of due_name, known_name and new_name where no name stands
+  module _ (k : ℕ) (told : p ≡ N.Refused k) where
+    pub due-wrong : (d : ℕ) → B.Refused k ≡ asBytes t (dueName (named d) 0 t)
+    unfolding dueName
+    due-wrong d = rw (name-wrong k told 0)
+
+    pub known-wrong : (vs : List ℕ) → K.Refused k ≡ asKnown t (known (map named vs) 0 t)
+    unfolding known
+    known-wrong vs = rw (name-wrong k told 0)
+
+    pub new-wrong : (vs : List ℕ) → p ≡ asName (newName (map named vs) 0 t)
+    unfolding newName
+    new-wrong vs = rw (name-wrong k told 0) told
+
+  -- and where one does
+  module _ (v n : ℕ) (told : p ≡ N.Name v n) where
+    pub due-other : (d : ℕ) → (v ≡ d → ⊥) → B.Refused 3 ≡ asBytes t (dueName (named d) 0 t)
+    unfolding dueName
+    due-other d h =
+        let s = name-spelt v n told in
+        rw (s .0 .reads 0, same-named (take n t) (s .0 .short) d, ← s .1, ne-eqb v d h)
+
+    pub due-same : (d : ℕ) → v ≡ d → (k : ℕ) → k ≡ n → B.Read k ≡ asBytes t (dueName (named d) 0 t)
+    unfolding dueName
+    due-same d h k z =
+        let s = name-spelt v n told in
+        rw (s .0 .reads 0, same-named (take n t) (s .0 .short) d, ← s .1, eq-eqb v d h) (ap (λ m. B.Read m) (z ∙ sym (taken-length t n (s .0 .within))))
+
+    pub known-none : (vs : List ℕ) (f : Found) → f ≡ foundIn v vs → f ≡ F.Nothing → K.Refused 3 ≡ asKnown t (known (map named vs) 0 t)
+    unfolding known
+    known-none vs f q e =
+        let s = name-spelt v n told in
+        rw (s .0 .reads 0, find-named (take n t) (s .0 .short) vs, ← s .1, ← q, e)
+
+    pub known-at : (vs : List ℕ) (f : Found) (i : ℕ) → f ≡ foundIn v vs → f ≡ F.At i → (j k : ℕ) → j ≡ i → k ≡ n → K.At j k ≡ asKnown t (known (map named vs) 0 t)
+    unfolding known
+    known-at vs f i q e j k y z =
+        let s = name-spelt v n told in
+        rw (s .0 .reads 0, find-named (take n t) (s .0 .short) vs, ← s .1, ← q, e) (rw (y, z, taken-length t n (s .0 .within)))
+
+    pub new-used : (l : List ℕ) (k : ℕ) (f : Found) (i : ℕ) → f ≡ foundIn v (take (k - 0) (drop 0 l)) → f ≡ F.At i
+        → N.Refused 3 ≡ asName (newName (map named (take k l)) 0 t)
+    unfolding newName
+    new-used l k f i q e =
+        let s = name-spelt v n told in
+        let z : k - 0 ≡ k = omega arith in
+        let g : foundIn v (take k l) ≡ F.At i = rw z at (sym q ∙ e) in
+        rw (s .0 .reads 0, among-place (take n t) (map named (take k l)), find-named (take n t) (s .0 .short) (take k l), ← s .1, g)
+
+    pub new-good : (l : List ℕ) (k : ℕ) (f : Found) → f ≡ foundIn v (take (k - 0) (drop 0 l)) → f ≡ F.Nothing → (u m : ℕ) → u ≡ v → m ≡ n
+        → N.Name u m ≡ asName (newName (map named (take k l)) 0 t)
+    unfolding newName
+    new-good l k f q e u m y x =
+        let s = name-spelt v n told in
+        let z : k - 0 ≡ k = omega arith in
+        let g : foundIn v (take k l) ≡ F.Nothing = rw z at (sym q ∙ e) in
+        rw (s .0 .reads 0, among-place (take n t) (map named (take k l)), find-named (take n t) (s .0 .short) (take k l), ← s .1, g)
+        (rw (y, x, s .1, length-take-le n t (s .0 .within)))
+
+pub ruleset dueing = (due-wrong, due-other, due-same)
+
+pub ruleset knowing = (known-wrong, known-none, known-at)
+
+pub ruleset newing = (new-wrong, new-used, new-good)
+
+-- the returns of due_text
+pub text-ended : (t k : List ℕ) (n : ℕ) → length t ≡ 0 → B.Refused 2 ≡ asBytes t (due n k 0 t)
+unfolding due notEnded
+text-ended [] k n h = refl
+text-ended (x ∷ t) k n h = absurd (omega arith)
+
+pub due-is : (l : ℕ) (t k : List ℕ) (n : ℕ) → (length t ≡ 0 → ⊥) → (b : Bool) → begins k t ≡ b → due n k l t ≡ cond b (got tt l (drop (length k) t)) (wrong n l)
+unfolding due notEnded stands
+due-is l [] k n h b e = absurd (h refl)
+due-is l (x ∷ t) k n h true e = rw e
+due-is l (x ∷ t) k n h false e = rw e
+
+pub text-other : (t k : List ℕ) (n : ℕ) → (length t ≡ 0 → ⊥) → (b : Bool) → b ≡ begins k t → not b ≡ true → B.Refused n ≡ asBytes t (due n k 0 t)
+text-other t k n h b e q = rw (due-is 0 t k n h false (sym e ∙ not-true b q))
+
+pub text-due : (t k : List ℕ) (n : ℕ) → (length t ≡ 0 → ⊥) → (b : Bool) → b ≡ begins k t → not b ≡ false → B.Read (length k) ≡ asBytes t (due n k 0 t)
+text-due t k n h b e q =
+    let here = sym e ∙ not-false b q in
+    rw (due-is 0 t k n h true here) (ap (λ m. B.Read m) (sym (taken-length t (length k) (begins-fits k t here))))
+
+pub ruleset texting = (text-ended, text-other, text-due)

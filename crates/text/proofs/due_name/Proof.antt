@@ -1,0 +1,27 @@
+use borrow.Author.Needs.{needs}
+use Rattle.text.proofs.Pieces.{dueing}
+use Rattle.text.proofs.due_name.Statement.{statement}
+use Rattle.text.proofs.due_name.Tie as tie
+
+name-piece-requires : tie.Need-name-piece-requires
+name-piece-requires c κs = search (needs, dueing)
+
+enum-known-p : tie.Need-enum-known-p
+enum-known-p c = search (needs, dueing)
+
+enum-known-p-2 : tie.Need-enum-known-p-2
+enum-known-p-2 c = search (needs, dueing)
+
+returns : tie.Need-returns
+returns c = search (needs, dueing)
+
+returns-2 : tie.Need-returns-2
+returns-2 c = search (needs, dueing)
+
+returns-3 : tie.Need-returns-3
+returns-3 c = search (needs, dueing)
+
+pub due-name-spec : {M : Type 1} → statement M
+due-name-spec =
+    tie.close
+    (tie.spec name-piece-requires enum-known-p enum-known-p-2 returns returns-2 returns-3)

@@ -1,0 +1,45 @@
+use borrow.Author.Needs.{needs}
+use Rattle.text.proofs.Pieces.{knowing}
+use Rattle.text.proofs.known_name.Statement.{statement}
+use Rattle.text.proofs.known_name.Tie as tie
+
+name-piece-requires : tie.Need-name-piece-requires
+name-piece-requires c κs = search (needs, knowing)
+
+enum-known-p : tie.Need-enum-known-p
+enum-known-p c = search (needs, knowing)
+
+enum-known-p-2 : tie.Need-enum-known-p-2
+enum-known-p-2 c = search (needs, knowing)
+
+find-requires : tie.Need-find-requires
+find-requires c κs = search (needs, knowing)
+
+enum-known-f : tie.Need-enum-known-f
+enum-known-f c = search (needs, knowing)
+
+enum-told : tie.Need-enum-told
+enum-told c = search (needs, knowing)
+
+returns : tie.Need-returns
+returns c = search (needs, knowing)
+
+returns-2 : tie.Need-returns-2
+returns-2 c = search (needs, knowing)
+
+returns-3 : tie.Need-returns-3
+returns-3 c = search (needs, knowing)
+
+pub known-name-spec : {M : Type 1} → statement M
+known-name-spec =
+    tie.close
+    (tie.spec
+    name-piece-requires
+    enum-known-p
+    enum-known-p-2
+    find-requires
+    enum-known-f
+    enum-told
+    returns
+    returns-2
+    returns-3)
