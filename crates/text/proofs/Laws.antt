@@ -172,3 +172,21 @@ module _ (w : ℕ) (l : List ℕ) (from to i : ℕ)
         v ∙ rw (left-is, found-later w _ _ e, m) (shifted-suc (i - from) _)
 
 pub ruleset finding = (find-start, find-over, find-none, find-here, find-more)
+
+pub found-within : (w : ℕ) (vs : List ℕ) (i : ℕ) → foundIn w vs ≡ F.At i → i < length vs
+unfolding foundIn
+found-within w [] i e =
+    let z : _≡_ {A = ℕ} 0 1 = cc in
+    absurd (omega arith)
+found-within w (v ∷ vs) i e = go (eqb v w) (foundIn w vs) e (found-within w vs)
+  where
+    go : (b : Bool) (f : Found) → elim b [ true ↦ F.At 0 | false ↦ further f ] ≡ F.At i → ((j : ℕ) → f ≡ F.At j → j < length vs) → i < suc (length vs)
+    go true f e ih =
+        let z : 0 ≡ i = cc in
+        omega arith
+    go false F.Nothing e ih =
+        let z : _≡_ {A = ℕ} 0 1 = cc in
+        absurd (omega arith)
+    go false (F.At j) e ih =
+        let z : suc j ≡ i = cc in
+        omega (arith, ih j refl)

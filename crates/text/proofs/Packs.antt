@@ -196,12 +196,12 @@ named-only (x ∷ w) (suc k) v e h p = go (ℕ-discrete v 0) (named-only w k (v 
         let d : symbol x ≡ v % 38 = rw (← first) (symbol-byte (v % 38) (rw first (p .0))) in
         omega (arith, ih others (omega arith) (p .1))
 
--- a name that is read: so many bytes as a name may have, all of them name bytes
-pub record Short (w : List ℕ) : Type 0 where
+-- a text for which its number stands: no longer than a name, all of it name bytes. A name that is read is one; `goodName` alone tests the first byte only
+pub record Packable (w : List ℕ) : Type 0 where
   pub plain : Plain w
   pub short : length w ≤ 12
 
-pub named-packed : (w : List ℕ) → Short w → named (packed w) ≡ w
+pub named-packed : (w : List ℕ) → Packable w → named (packed w) ≡ w
 unfolding named
 named-packed w p = named-back 13 w (omega arith) (p .plain)
 
@@ -230,7 +230,7 @@ placeOf-further : (f : Found) → later (placeOf f) ≡ placeOf (further f)
 placeOf-further (F.At i) = refl
 placeOf-further F.Nothing = refl
 
-module _ (w : List ℕ) (p : Short w) where
+module _ (w : List ℕ) (p : Packable w) where
   -- a name is the name of a number where the number is its own, and nowhere else
   pub same-named : (v : ℕ) → same w (named v) ≡ eqb (packed w) v
   unfolding named
@@ -351,6 +351,6 @@ module _ (w : ℕ) where
 pub ruleset reserving = (reserved-on, reserved-if, reserved-or, reserved-and, reserved-not, reserved-end, reserved-none)
 
 -- the words are those numbers' names
-pub reserved-named : (w : List ℕ) → Short w → among w reserved ≡ isIn (packed w) (map packed reserved)
+pub reserved-named : (w : List ℕ) → Packable w → among w reserved ≡ isIn (packed w) (map packed reserved)
 unfolding packed symbol named namedIn byteOf
 reserved-named w p = among-named w p (map packed reserved)

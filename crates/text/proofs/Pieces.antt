@@ -23,7 +23,7 @@ use Rattle.text.specs.declared.Found.the-variants as F
 use Rattle.text.specs.Packed.{packed, named}
 use Rattle.text.specs.Answers.{asBytes, asName, asKnown, foundIn, further}
 use Rattle.text.proofs.Laws.{run-cons, run-halt, run-le, begins-fits}
-use Rattle.text.proofs.Packs.{Plain, Short, plain-run, length-run, same-named, reserved-named, among-named, find-named, placeOf, and-both}
+use Rattle.text.proofs.Packs.{Plain, Packable, plain-run, length-run, same-named, reserved-named, among-named, find-named, placeOf, and-both}
 
 -- the longest run of name bytes
 abbrev pub word : List ℕ → List ℕ
@@ -60,8 +60,8 @@ good-is (x ∷ t) = go (nameByte x) refl
     go true e = rw (run-cons nameByte x t e, length-run t (run nameByte t) refl)
     go false e = rw (run-halt nameByte x t e, not-letter x e)
 
-pub word-short : (t : List ℕ) → run nameByte t ≤ 12 → Short (word t)
-word-short t h = record { plain = plain-run t; short = omega (arith, length-run t (run nameByte t) refl) }
+pub word-packable : (t : List ℕ) → run nameByte t ≤ 12 → Packable (word t)
+word-packable t h = record { plain = plain-run t; short = omega (arith, length-run t (run nameByte t) refl) }
 
 -- the returns of name_piece
 pub piece-ended : (t : List ℕ) → length t ≡ 0 → N.Refused 2 ≡ asName (name 0 t)
@@ -84,7 +84,7 @@ module _ (t : List ℕ) (some : length t ≡ 0 → ⊥) where
 
     module _ (short : n ≤ 12) (v : ℕ) (number : v ≡ packed (take n t)) (b : Bool) (word-is : b ≡ isIn v (map packed reserved)) where
       among-is : among (word t) reserved ≡ b
-      among-is = reserved-named (word t) (word-short t (omega arith)) ∙ rw (← is, ← number) (sym word-is)
+      among-is = reserved-named (word t) (word-packable t (omega arith)) ∙ rw (← is, ← number) (sym word-is)
 
       pub piece-reserved : b ≡ true → N.Refused 3 ≡ asName (name 0 t)
       piece-reserved q = bad-piece t some (good-is t ∙ rw (among-is, q) (and-false (letter (getD t 0 0) && leb (run nameByte t) 12)))
@@ -99,7 +99,7 @@ pub ruleset piecing = (piece-ended, piece-letter, piece-long, piece-reserved, pi
 -- the first n bytes of t are the name that stands there
 pub record Spelt (t : List ℕ) (n : ℕ) : Type 0 where
   pub good : goodName (take n t) ≡ true
-  pub short : Short (take n t)
+  pub packable : Packable (take n t)
   pub within : n ≤ length t
   pub some : 1 ≤ n
   pub few : n ≤ 12
@@ -127,7 +127,7 @@ view (x ∷ t) = go (goodName (word (x ∷ t))) refl
         let l = length-run (x ∷ t) (run nameByte (x ∷ t)) refl in
         isName (run nameByte (x ∷ t)) record {
           good = e;
-          short = record { plain = plain-run (x ∷ t); short = size .1 };
+          packable = record { plain = plain-run (x ∷ t); short = size .1 };
           within = run-le nameByte (x ∷ t);
           some = omega arith;
           few = omega arith;
@@ -136,14 +136,14 @@ view (x ∷ t) = go (goodName (word (x ∷ t))) refl
     go false e = isWrong 3 (λ l. name-is l (x ∷ t) false some e)
 
 -- a place was found
-abbrev isPlace : Option ℕ → Bool
+abbrev pub isPlace : Option ℕ → Bool
 isPlace none = false
 isPlace (some i) = true
 
-taken-length : (t : List ℕ) (n : ℕ) → n ≤ length t → length t - length (drop n t) ≡ n
+pub taken-length : (t : List ℕ) (n : ℕ) → n ≤ length t → length t - length (drop n t) ≡ n
 taken-length t n h = simp length-drop (omega arith)
 
-among-place : (w : List ℕ) (ks : List (List ℕ)) → among w ks ≡ isPlace (find w ks)
+pub among-place : (w : List ℕ) (ks : List (List ℕ)) → among w ks ≡ isPlace (find w ks)
 unfolding among find
 among-place w [] = refl
 among-place w (k ∷ ks) = go (same w k) refl (find w ks) (among-place w ks)
@@ -203,25 +203,25 @@ module _ (p : NamePiece) (t : List ℕ) (is : p ≡ asName (name 0 t)) where
     unfolding dueName
     due-other d h =
         let s = name-spelt v n told in
-        rw (s .0 .reads 0, same-named (take n t) (s .0 .short) d, ← s .1, ne-eqb v d h)
+        rw (s .0 .reads 0, same-named (take n t) (s .0 .packable) d, ← s .1, ne-eqb v d h)
 
     pub due-same : (d : ℕ) → v ≡ d → (k : ℕ) → k ≡ n → B.Read k ≡ asBytes t (dueName (named d) 0 t)
     unfolding dueName
     due-same d h k z =
         let s = name-spelt v n told in
-        rw (s .0 .reads 0, same-named (take n t) (s .0 .short) d, ← s .1, eq-eqb v d h) (ap (λ m. B.Read m) (z ∙ sym (taken-length t n (s .0 .within))))
+        rw (s .0 .reads 0, same-named (take n t) (s .0 .packable) d, ← s .1, eq-eqb v d h) (ap (λ m. B.Read m) (z ∙ sym (taken-length t n (s .0 .within))))
 
     pub known-none : (vs : List ℕ) (f : Found) → f ≡ foundIn v vs → f ≡ F.Nothing → K.Refused 3 ≡ asKnown t (known (map named vs) 0 t)
     unfolding known
     known-none vs f q e =
         let s = name-spelt v n told in
-        rw (s .0 .reads 0, find-named (take n t) (s .0 .short) vs, ← s .1, ← q, e)
+        rw (s .0 .reads 0, find-named (take n t) (s .0 .packable) vs, ← s .1, ← q, e)
 
     pub known-at : (vs : List ℕ) (f : Found) (i : ℕ) → f ≡ foundIn v vs → f ≡ F.At i → (j k : ℕ) → j ≡ i → k ≡ n → K.At j k ≡ asKnown t (known (map named vs) 0 t)
     unfolding known
     known-at vs f i q e j k y z =
         let s = name-spelt v n told in
-        rw (s .0 .reads 0, find-named (take n t) (s .0 .short) vs, ← s .1, ← q, e) (rw (y, z, taken-length t n (s .0 .within)))
+        rw (s .0 .reads 0, find-named (take n t) (s .0 .packable) vs, ← s .1, ← q, e) (rw (y, z, taken-length t n (s .0 .within)))
 
     pub new-used : (l : List ℕ) (k : ℕ) (f : Found) (i : ℕ) → f ≡ foundIn v (take (k - 0) (drop 0 l)) → f ≡ F.At i
         → N.Refused 3 ≡ asName (newName (map named (take k l)) 0 t)
@@ -230,7 +230,7 @@ module _ (p : NamePiece) (t : List ℕ) (is : p ≡ asName (name 0 t)) where
         let s = name-spelt v n told in
         let z : k - 0 ≡ k = omega arith in
         let g : foundIn v (take k l) ≡ F.At i = rw z at (sym q ∙ e) in
-        rw (s .0 .reads 0, among-place (take n t) (map named (take k l)), find-named (take n t) (s .0 .short) (take k l), ← s .1, g)
+        rw (s .0 .reads 0, among-place (take n t) (map named (take k l)), find-named (take n t) (s .0 .packable) (take k l), ← s .1, g)
 
     pub new-good : (l : List ℕ) (k : ℕ) (f : Found) → f ≡ foundIn v (take (k - 0) (drop 0 l)) → f ≡ F.Nothing → (u m : ℕ) → u ≡ v → m ≡ n
         → N.Name u m ≡ asName (newName (map named (take k l)) 0 t)
@@ -239,7 +239,7 @@ module _ (p : NamePiece) (t : List ℕ) (is : p ≡ asName (name 0 t)) where
         let s = name-spelt v n told in
         let z : k - 0 ≡ k = omega arith in
         let g : foundIn v (take k l) ≡ F.Nothing = rw z at (sym q ∙ e) in
-        rw (s .0 .reads 0, among-place (take n t) (map named (take k l)), find-named (take n t) (s .0 .short) (take k l), ← s .1, g)
+        rw (s .0 .reads 0, among-place (take n t) (map named (take k l)), find-named (take n t) (s .0 .packable) (take k l), ← s .1, g)
         (rw (y, x, s .1, length-take-le n t (s .0 .within)))
 
 pub ruleset dueing = (due-wrong, due-other, due-same)
