@@ -3,3 +3,6 @@ pub mod Told
 pub mod Finds
 pub mod Kept
 pub mod Listed
+pub mod Leaves
+pub mod Steps
+pub mod Lists
