@@ -37,6 +37,7 @@ bit-small false = omega arith
 -- n leaves are 2n - 1 words, and one more where a joining word stands
 mutual
   unfolding wordsC leavesC
+
   pub words-count : (b j : Bool) (c : Cond) → length (wordsC b j c) + 1 ≡ 2 * length (leavesC c) + bit j
   words-count b j (Cond.only a) = rw length-append (omega (arith, words-count-and b false a, length-join j (bit (not b))))
   words-count b j (Cond.or a c) = rw (length-append (wordsA b false a), length-append (join j (bit (not b))), length-append (leavesA a)) (omega (arith, words-count-and b false a, length-join j (bit (not b)), words-count b true c))

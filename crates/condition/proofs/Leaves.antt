@@ -240,7 +240,7 @@ module _ (neg : Bool) (s : List ℕ) (leaves : ℕ) (st fd : List ℕ) (p : Name
     unfolding readLeaf
     leaf-known r er =
         let in-table : (vs : List ℕ) → find (take n s) (map named vs) ≡ placeIn (foundIn w vs) =
-            λ vs. find-named (take n s) (name-packable p s is w n e) vs ∙ rw (← name-number p s is w n e) (same-place (foundIn w vs)) in
+        λ vs. find-named (take n s) (name-packable p s is w n e) vs ∙ rw (← name-number p s is w n e) (same-place (foundIn w vs)) in
         er ∙ sym (rw (name-got p s is w n e 0, in-table st, in-table fd))
 
 pub ruleset leafing = (leaf-name, leaf-known, leaf-room)

@@ -6,3 +6,4 @@ pub mod Listed
 pub mod Leaves
 pub mod Steps
 pub mod Lists
+pub mod Items

@@ -242,4 +242,5 @@ module _ (st fd : List ℕ) (d : ℕ) (neg : Bool) (s : List ℕ) (top leaves : 
             or-fits l m em = record { fits = omega (arith, or-far) }
 
 pub ruleset and-turns = (and-start, and-ready, and-refused, and-end-fits, and-room, and-end, and-on, and-less, and-fits)
+
 pub ruleset or-turns = (or-start, or-ready, or-refused, or-end-fits, or-room, or-end, or-on, or-less, or-fits)

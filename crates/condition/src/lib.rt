@@ -117,7 +117,10 @@ fn comparison(s: &[u8], at: usize, field: usize, neg: bool) -> LeafRead
             let p = number::number_piece(text::rest(s, end));
             match p {
                 NumberPiece::Refused(j) => LeafRead::Refused(j),
-                NumberPiece::Number(v, n) => LeafRead::Word(comparison_word(neg, field as u64, c, v), end + n),
+                NumberPiece::Number(v, n) => LeafRead::Word(
+                    comparison_word(neg, field as u64, c, v),
+                    end + n,
+                ),
             }
         }
     }
@@ -139,7 +142,15 @@ fn field_leaf(s: &[u8], at: usize, w: u64, fields: &[u64], leaves: usize, neg: b
 }
 
 // The leaf whose name `w` ends at `at`. Whether it is one too many is told behind its name.
-fn known_leaf(s: &[u8], at: usize, w: u64, statuses: &[u64], fields: &[u64], leaves: usize, neg: bool) -> LeafRead
+fn known_leaf(
+    s: &[u8],
+    at: usize,
+    w: u64,
+    statuses: &[u64],
+    fields: &[u64],
+    leaves: usize,
+    neg: bool,
+) -> LeafRead
     requires { ⌜ (at ≤ length (now s)) × (length (now statuses) ≤ 32) × (length (now fields) ≤ 16) ⌝ }
     ensures { λ r. ⌜ r ≡ asLeaf neg (now (s .entry)) (namedLeaf leaves (placeIn (foundIn w (now (statuses .entry)))) (placeIn (foundIn w (now (fields .entry)))) 0 (drop at (now (s .entry)))) ⌝ }
 {
@@ -166,7 +177,15 @@ fn leaf(s: &[u8], statuses: &[u64], fields: &[u64], leaves: usize, neg: bool) ->
 }
 
 // The leaf at the start of `s` as an item: its word is stored.
-fn leaf_item(s: &[u8], statuses: &[u64], fields: &[u64], words: &mut [u64], top: usize, leaves: usize, neg: bool) -> CondRead
+fn leaf_item(
+    s: &[u8],
+    statuses: &[u64],
+    fields: &[u64],
+    words: &mut [u64],
+    top: usize,
+    leaves: usize,
+    neg: bool,
+) -> CondRead
     requires { ⌜ Ready (now statuses) (now fields) (now words) top leaves ⌝ }
     ensures { λ r. ⌜ Gives (wordsI neg) leavesI (now (s .entry)) top leaves (leafItem (map named (now (statuses .entry))) (map named (now (fields .entry))) leaves 0 (now (s .entry))) r (now (words .entry)) (now (words .exit)) ⌝ }
 {
@@ -175,7 +194,11 @@ fn leaf_item(s: &[u8], statuses: &[u64], fields: &[u64], words: &mut [u64], top:
         LeafRead::Refused(k) => CondRead::Refused(k),
         LeafRead::Word(w, n) => {
             words[top] = w;
-            CondRead::At(Place { bytes: n, top: top + 1, leaves: leaves + 1 })
+            CondRead::At(Place {
+                bytes: n,
+                top: top + 1,
+                leaves: leaves + 1,
+            })
         }
     }
 }
@@ -212,7 +235,11 @@ fn behind(s: &[u8], n: usize, r: CondRead) -> CondRead
 {
     match r {
         CondRead::Refused(k) => CondRead::Refused(k),
-        CondRead::At(q) => CondRead::At(Place { bytes: n + q.bytes, top: q.top, leaves: q.leaves }),
+        CondRead::At(q) => CondRead::At(Place {
+            bytes: n + q.bytes,
+            top: q.top,
+            leaves: q.leaves,
+        }),
     }
 }
 
@@ -228,58 +255,131 @@ fn closed(s: &[u8], r: CondRead) -> CondRead
     let d = text::due_text(text::rest(s, end), b")", 5);
     match d {
         Bytes::Refused(k) => CondRead::Refused(k),
-        Bytes::Read(_) => CondRead::At(Place { bytes: end + 1, top: q.top, leaves: q.leaves }),
+        Bytes::Read(_) => CondRead::At(Place {
+            bytes: end + 1,
+            top: q.top,
+            leaves: q.leaves,
+        }),
     }
 }
 
 // A condition: and-lists joined by ` or `, behind each of which but the first an or is stored.
-fn condition(s: &[u8], statuses: &[u64], fields: &[u64], words: &mut [u64], top: usize, leaves: usize, nest: usize, neg: bool) -> CondRead
+fn condition(
+    s: &[u8],
+    statuses: &[u64],
+    fields: &[u64],
+    words: &mut [u64],
+    top: usize,
+    leaves: usize,
+    nest: usize,
+    neg: bool,
+) -> CondRead
     requires { ⌜ Ready (now statuses) (now fields) (now words) top leaves ⌝ }
     ensures { λ r. ⌜ Gives (wordsC neg false) leavesC (now (s .entry)) top leaves (readCond (readItem (map named (now (statuses .entry))) (map named (now (fields .entry))) nest) 513 leaves 0 (now (s .entry))) r (now (words .entry)) (now (words .exit)) ⌝ }
 {
-    let mut p = Place { bytes: 0, top, leaves };
+    let mut p = Place {
+        bytes: 0,
+        top,
+        leaves,
+    };
     let mut joined = false;
     loop {
         let at = p.bytes;
-        let r = and_list(text::rest(s, at), statuses, fields, words, p.top, p.leaves, nest, neg);
+        let r = and_list(
+            text::rest(s, at),
+            statuses,
+            fields,
+            words,
+            p.top,
+            p.leaves,
+            nest,
+            neg,
+        );
         let CondRead::At(q) = r else {
             return r;
         };
         let end = at + q.bytes;
         let next = join_word(words, q.top, joined, !neg);
         if !or_stands(s, end) {
-            return CondRead::At(Place { bytes: end, top: next, leaves: q.leaves });
+            return CondRead::At(Place {
+                bytes: end,
+                top: next,
+                leaves: q.leaves,
+            });
         }
-        p = Place { bytes: end + 4, top: next, leaves: q.leaves };
+        p = Place {
+            bytes: end + 4,
+            top: next,
+            leaves: q.leaves,
+        };
         joined = true;
     }
 }
 
 // An and-list: items joined by ` and `, likewise.
-fn and_list(s: &[u8], statuses: &[u64], fields: &[u64], words: &mut [u64], top: usize, leaves: usize, nest: usize, neg: bool) -> CondRead
+fn and_list(
+    s: &[u8],
+    statuses: &[u64],
+    fields: &[u64],
+    words: &mut [u64],
+    top: usize,
+    leaves: usize,
+    nest: usize,
+    neg: bool,
+) -> CondRead
     requires { ⌜ Ready (now statuses) (now fields) (now words) top leaves ⌝ }
     ensures { λ r. ⌜ Gives (wordsA neg false) leavesA (now (s .entry)) top leaves (readAnd (readItem (map named (now (statuses .entry))) (map named (now (fields .entry))) nest) 513 leaves 0 (now (s .entry))) r (now (words .entry)) (now (words .exit)) ⌝ }
 {
-    let mut p = Place { bytes: 0, top, leaves };
+    let mut p = Place {
+        bytes: 0,
+        top,
+        leaves,
+    };
     let mut joined = false;
     loop {
         let at = p.bytes;
-        let r = item(text::rest(s, at), statuses, fields, words, p.top, p.leaves, nest, neg);
+        let r = item(
+            text::rest(s, at),
+            statuses,
+            fields,
+            words,
+            p.top,
+            p.leaves,
+            nest,
+            neg,
+        );
         let CondRead::At(q) = r else {
             return r;
         };
         let end = at + q.bytes;
         let next = join_word(words, q.top, joined, neg);
         if !and_stands(s, end) {
-            return CondRead::At(Place { bytes: end, top: next, leaves: q.leaves });
+            return CondRead::At(Place {
+                bytes: end,
+                top: next,
+                leaves: q.leaves,
+            });
         }
-        p = Place { bytes: end + 5, top: next, leaves: q.leaves };
+        p = Place {
+            bytes: end + 5,
+            top: next,
+            leaves: q.leaves,
+        };
         joined = true;
     }
 }
 
 // An item: `not ` and an item, a group, or a leaf. `nest` more nots and groups may stand around each other.
-fn item(s: &[u8], statuses: &[u64], fields: &[u64], words: &mut [u64], top: usize, leaves: usize, nest: usize, neg: bool) -> CondRead
+fn item(
+    s: &[u8],
+    statuses: &[u64],
+    fields: &[u64],
+    words: &mut [u64],
+    top: usize,
+    leaves: usize,
+    nest: usize,
+    neg: bool,
+) -> CondRead
     requires { ⌜ Ready (now statuses) (now fields) (now words) top leaves ⌝ }
     ensures { λ r. ⌜ Gives (wordsI neg) leavesI (now (s .entry)) top leaves (readItem (map named (now (statuses .entry))) (map named (now (fields .entry))) nest leaves 0 (now (s .entry))) r (now (words .entry)) (now (words .exit)) ⌝ }
 {
@@ -290,7 +390,16 @@ fn item(s: &[u8], statuses: &[u64], fields: &[u64], words: &mut [u64], top: usiz
         if nest == 0 {
             return CondRead::Refused(5);
         }
-        let r = item(text::rest(s, 4), statuses, fields, words, top, leaves, nest - 1, !neg);
+        let r = item(
+            text::rest(s, 4),
+            statuses,
+            fields,
+            words,
+            top,
+            leaves,
+            nest - 1,
+            !neg,
+        );
         return behind(s, 4, r);
     }
     if !text::starts(s, b"(") {
@@ -299,7 +408,16 @@ fn item(s: &[u8], statuses: &[u64], fields: &[u64], words: &mut [u64], top: usiz
     if nest == 0 {
         return CondRead::Refused(5);
     }
-    let r = condition(text::rest(s, 1), statuses, fields, words, top, leaves, nest - 1, neg);
+    let r = condition(
+        text::rest(s, 1),
+        statuses,
+        fields,
+        words,
+        top,
+        leaves,
+        nest - 1,
+        neg,
+    );
     closed(s, r)
 }
 
@@ -316,7 +434,14 @@ fn clear(words: &mut [u64], top: usize)
 }
 
 // The condition at the start of `s`, whose names are those of the tables, behind `top` words and `leaves` leaves.
-pub fn read_condition(s: &[u8], statuses: &[u64], fields: &[u64], words: &mut [u64], top: usize, leaves: usize) -> CondRead
+pub fn read_condition(
+    s: &[u8],
+    statuses: &[u64],
+    fields: &[u64],
+    words: &mut [u64],
+    top: usize,
+    leaves: usize,
+) -> CondRead
     requires { ⌜ Ready (now statuses) (now fields) (now words) top leaves ⌝ }
     ensures answer { λ r. ⌜ r ≡ asCondition (now (s .entry)) top leaves (condition (map named (now (statuses .entry))) (map named (now (fields .entry))) leaves 0 (now (s .entry))) ⌝ }
     ensures space { λ r. ⌜ now (words .exit) ≡ stored (now (words .entry)) top (condition (map named (now (statuses .entry))) (map named (now (fields .entry))) leaves 0 (now (s .entry))) ⌝ }
