@@ -1,17 +1,20 @@
 -- For callers: what an answer of this crate tells of the meaning, at every line l and for every rest t, without a look into the meaning.
 use mathlib.Core.Path.{_≡_}
-use mathlib.Core.List.{List}
-use Prim.Native.Nat.{ℕ, _≤_}
+use mathlib.Core.List.{List, []}
+use Prim.Native.Nat.{ℕ, suc, _+_, _≤_}
 use lib.ListN.{length, drop, take}
 use Rattle.meaning.specs.Reading.{got, wrong}
-use Rattle.meaning.specs.Number.{number, entry, Value}
-use Rattle.number.specs.Answers.{asNumber, asEntry, coded, valueOf}
+use Rattle.meaning.specs.Number.{number, entry, endLine, Value}
+use Rattle.number.specs.Answers.{asNumber, asEntry, asEnd, coded, valueOf}
 use Rattle.number.specs.declared.NumberPiece.{NumberPiece}
 use Rattle.number.specs.declared.NumberPiece.the-variants as N
 use Rattle.number.specs.declared.EntryPiece.{EntryPiece}
 use Rattle.number.specs.declared.EntryPiece.the-variants as E
+use Rattle.number.specs.declared.End.{End}
+use Rattle.number.specs.declared.End.the-variants as D
 use Rattle.number.proofs.Numbers.{piece-read, piece-refused}
 use Rattle.number.proofs.Entries as Entries
+use Rattle.number.proofs.Ends.{end-done, end-kept, end-near}
 
 -- a number
 module _ (t : List ℕ) (p : NumberPiece) (is : p ≡ asNumber (number 0 t)) where
@@ -55,3 +58,14 @@ module _ (t : List ℕ) (p : EntryPiece) (is : p ≡ asEntry (entry 0 t)) where
 
     pub entry-small : v ≤ 2000000001
     entry-small = Entries.piece-entered t p is v n e .small
+
+-- the last line, with the count c: nothing is left behind it, or it is refused at this line or the next
+module _ (c : ℕ) (t : List ℕ) (p : End) (is : p ≡ asEnd (endLine c 0 t)) where
+  pub end-got : p ≡ D.Done → (l : ℕ) → endLine c l t ≡ got tt (suc l) []
+  end-got e l = end-done c t p is e l
+
+  pub end-wrong : (k o : ℕ) → p ≡ D.Refused k o → (l : ℕ) → endLine c l t ≡ wrong k (l + o)
+  end-wrong k o e l = end-kept c t p is k o e l
+
+  pub end-next : (k o : ℕ) → p ≡ D.Refused k o → o ≤ 1
+  end-next k o e = end-near c t p is k o e

@@ -6,7 +6,7 @@ use Prim.Native.Nat.{ℕ, suc, _+_, _-_, _<_, _≤_}
 use native.Mathlib.Omega.{arith}
 use borrow.Author.Tests.{eq-eqb, ne-eqb, eqb-true, eqb-false, not-true, not-false}
 use lib.Dec.{eqb}
-use lib.ListN.{length, drop, getD}
+use lib.ListN.{length, drop}
 use Rattle.meaning.specs.Text.{begins, text}
 use Rattle.meaning.specs.Reading.{Got, got, wrong, notEnded, stands, due, lineEnd, paperEnd, after, demand}
 use Rattle.meaning.specs.Number.{number, endLine}

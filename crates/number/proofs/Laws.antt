@@ -1,30 +1,22 @@
--- Laws of runs of digits and of numbers, in the form in which the functions' answers need them: the premises are what is known at a place,
+-- Laws of runs of digits, in the form in which the functions' answers need them: the premises are what is known at a place,
 -- the conclusion is what is asked there.
-use mathlib.Core.Path.{_≡_, refl, ap, sym, _∙_}
+use mathlib.Core.Path.{_≡_, refl, sym, _∙_}
 use mathlib.Core.Bool.{Bool, true, false, _&&_, not, cond, true≢false}
-use mathlib.Core.List.{List, [], _∷_, _++_}
+use mathlib.Core.List.{List, [], _∷_}
 use mathlib.Core.Option.{Option, none, some}
-use Prim.Native.Nat.{ℕ, zero, suc, _+_, _-_, _*_, _^_, _<_, _≤_}
+use Prim.Native.Nat.{ℕ, suc, _+_, _-_, _*_, _<_, _≤_}
 use native.Mathlib.Omega.{arith}
 use native.Mathlib.Numerals.{add-one}
 use borrow.Author.Tests.{eq-eqb, ne-eqb, lt-leb, le-leb, not-true, not-false, leb-true, eqb-true}
-use mir.Val.{Fits}
-use mir.Syntax.{w64}
 use lib.Dec.{eqb, leb}
-use lib.ListN.{length, drop, take, getD, drop-of-length-le, length-drop}
-use lib.Seq.{drop-cons, take-all, length-take-le}
-use Rattle.meaning.specs.Text.{run, begins, text}
-use Rattle.meaning.specs.Reading.{Got, got, wrong, notEnded, stands, longest}
+use lib.ListN.{length, drop, getD, drop-of-length-le}
+use lib.Seq.{drop-cons}
+use Rattle.meaning.specs.Text.{run}
 use Rattle.meaning.specs.Name.{digit}
-use Rattle.meaning.specs.Number.{amount, inRange, digits, place, judged, number, entry}
-use Rattle.number.specs.Answers.{asNumber, asEntry}
+use Rattle.meaning.specs.Number.{amount, inRange, digits}
 use Rattle.number.specs.Digits.{asDigits, digitRun, needlessZero, amountRun, digitsRun}
 use Rattle.number.specs.declared.Digits.{Digits}
 use Rattle.number.specs.declared.Digits.the-variants as D
-use Rattle.number.specs.declared.NumberPiece.{NumberPiece}
-use Rattle.number.specs.declared.NumberPiece.the-variants as N
-use Rattle.number.specs.declared.EntryPiece.{EntryPiece}
-use Rattle.number.specs.declared.EntryPiece.the-variants as E
 
 -- a digit, and a run of them
 and-left : (a b : Bool) → (a && b) ≡ true → a ≡ true
@@ -117,8 +109,8 @@ module _ (s : List ℕ) (v i : ℕ) (going : Passed s v i) where
       next : amount 0 (digitRun s) ≡ amount w (digitRun (drop (i + 1) s))
       next = going .same ∙ rw (add-one, drop-cons s i 0, e, q) (amount-first v _ _ (sym is ∙ not-false b t))
 
-      pub passed-over : 1000000000 < w → D.Wrong ≡ amountRun s
-      passed-over h = amount-over s (omega (arith, next, amount-grows w (digitRun (drop (i + 1) s))))
+      pub passed-over : (m : ℕ) → m < w → leb 1000000000 m ≡ true → D.Wrong ≡ amountRun s
+      passed-over m h k = amount-over s (omega (arith, leb-true 1000000000 m k, next, amount-grows w (digitRun (drop (i + 1) s))))
 
       pub passed-more : w ≤ 1000000000 → (j : ℕ) → j ≡ i + 1 → Passed s w j
       passed-more h j z =

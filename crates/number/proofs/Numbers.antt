@@ -1,29 +1,26 @@
 -- Laws of `number` and `entry`: what each reads, for every line and every text, and from it what the functions answer.
 use mathlib.Core.Path.{_≡_, refl, ap, sym, _∙_}
-use mathlib.Core.Bool.{Bool, true, false, cond}
+use mathlib.Core.Bool.{Bool, true, false}
 use mathlib.Core.List.{List, [], _∷_}
 use mathlib.Core.Option.{Option, none, some}
-use Prim.Native.Nat.{ℕ, suc, _+_, _-_, _*_, _^_, _<_, _≤_}
+use Prim.Native.Nat.{ℕ, suc, _+_, _-_, _^_, _<_, _≤_}
 use native.Mathlib.Omega.{arith}
-use native.Mathlib.Numerals.{add-one}
 use borrow.Author.Tests.{eq-eqb, ne-eqb, leb-true, eqb-true}
 use mir.Val.{Fits}
 use mir.Syntax.{w64}
 use lib.Dec.{eqb, leb}
 use lib.ListN.{length, drop, take, getD, length-drop}
 use lib.Seq.{take-all, length-take-le}
-use Rattle.meaning.specs.Text.{run, begins, text}
-use Rattle.meaning.specs.Reading.{Got, got, wrong, notEnded, stands, longest}
+use Rattle.meaning.specs.Text.{run, begins}
+use Rattle.meaning.specs.Reading.{got, wrong, notEnded, stands, longest}
 use Rattle.meaning.specs.Name.{digit}
-use Rattle.meaning.specs.Number.{amount, inRange, digits, place, judged, number, entry}
-use Rattle.number.specs.Answers.{asNumber, asEntry}
+use Rattle.meaning.specs.Number.{amount, inRange, digits, place, judged, number}
+use Rattle.number.specs.Answers.{asNumber}
 use Rattle.number.specs.Digits.{asDigits, digitRun, digitsRun}
 use Rattle.number.specs.declared.Digits.{Digits}
 use Rattle.number.specs.declared.Digits.the-variants as D
 use Rattle.number.specs.declared.NumberPiece.{NumberPiece}
 use Rattle.number.specs.declared.NumberPiece.the-variants as N
-use Rattle.number.specs.declared.EntryPiece.{EntryPiece}
-use Rattle.number.specs.declared.EntryPiece.the-variants as E
 use Rattle.number.proofs.Laws.{digit-high, run-le, run-first, run-none, wrong-is}
 
 -- digits that stand for a value: it is in the range, and there is at least one

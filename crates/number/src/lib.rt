@@ -3,7 +3,7 @@ ghost use mathlib.Core.Path.{_≡_};
 ghost use Prim.Native.Nat.{_+_, _<_};
 ghost use lib.Dec.{eqb};
 ghost use Rattle.meaning.specs.Name.{digit};
-ghost use Rattle.meaning.specs.Number.{number, entry, endLine};
+ghost use Rattle.meaning.specs.Number.{middle, number, entry, endLine};
 ghost use Rattle.number.specs.Answers.{asNumber, asEntry, asEnd};
 ghost use Rattle.number.specs.Digits.{needlessZero, amountRun, digitsRun};
 ghost use Rattle.number.specs.Ending.{closed};
@@ -25,6 +25,9 @@ pub enum End {
     Done,
     Refused(u8, usize),
 }
+
+// The place of 0, which is also the greatest amount.
+const MIDDLE: u64 = 1000000000;
 
 // A run of digits: its value and its length, where it stands for one in the range.
 enum Digits {
@@ -70,7 +73,7 @@ fn amount_run(s: &[u8]) -> Digits
             return Digits::Good(v, i);
         }
         v = v * 10 + (wide(b) - 48);
-        if 1000000000 < v {
+        if MIDDLE < v {
             return Digits::Wrong;
         }
         i += 1;
@@ -109,12 +112,12 @@ pub fn number_piece(s: &[u8]) -> NumberPiece
         if v == 0 {
             return NumberPiece::Refused(4);
         }
-        return NumberPiece::Number(1000000000 - v, n + 1);
+        return NumberPiece::Number(MIDDLE - v, n + 1);
     }
     let Digits::Good(v, n) = digits_run(s) else {
         return NumberPiece::Refused(4);
     };
-    NumberPiece::Number(1000000000 + v, n)
+    NumberPiece::Number(MIDDLE + v, n)
 }
 
 // The value at the start of `s`.
@@ -136,12 +139,12 @@ pub fn entry_piece(s: &[u8]) -> EntryPiece
 
 // Whether the number at the place `v` is the count. No sum is made, which a large count would not fit.
 fn is_count(v: u64, count: usize) -> bool
-    ensures { λ r. ⌜ r ≡ eqb v (1000000000 + count) ⌝ }
+    ensures { λ r. ⌜ r ≡ eqb v (middle + count) ⌝ }
 {
-    if v < 1000000000 {
+    if v < MIDDLE {
         return false;
     }
-    v - 1000000000 == count as u64
+    v - MIDDLE == count as u64
 }
 
 // What stands behind the count: the LF of the last line, and nothing more.

@@ -1,10 +1,9 @@
--- `amount_run` answers the value of the longest run of digits. The invariant: the run is the digits passed and those of the rest, and its value is that of the rest behind them.
--- Assumes nothing.
+-- `amount_run` answers the value of the longest run of digits. The invariant: the run is the digits passed and those of the rest, and its value is that of
+-- the rest's digits behind the value of those passed. Assumes nothing.
 use borrow.Author.Needs.{needs}
 use Prim.Native.Nat.{_-_}
 use lib.ListN.{length}
-use Rattle.number.proofs.Laws.{Passed}
-use Rattle.number.proofs.Laws.{passing}
+use Rattle.number.proofs.Laws.{Passed, passing}
 use Rattle.number.proofs.amount_run.Statement.{statement}
 use Rattle.number.proofs.amount_run.Tie as tie
 

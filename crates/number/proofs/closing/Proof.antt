@@ -1,3 +1,5 @@
+-- `closing` answers what stands behind the count: another byte than the LF, bytes behind it, or nothing.
+-- Assumes nothing.
 use borrow.Author.Needs.{needs}
 use Rattle.number.proofs.Ends.{closing}
 use Rattle.number.proofs.closing.Statement.{statement}

@@ -1,3 +1,5 @@
+-- `end_line` answers what `endLine` reads: the key, a number that is the count, and what stands behind it.
+-- Assumes nothing.
 use borrow.Author.Needs.{needs}
 use Rattle.number.proofs.Ends.{ending}
 use Rattle.number.proofs.end_line.Statement.{statement}
