@@ -1,4 +1,5 @@
 pub mod Laws
 pub mod Packs
+pub mod Steps
 pub mod Pieces
 pub mod Callers
