@@ -7,3 +7,4 @@ pub mod Leaves
 pub mod Steps
 pub mod Lists
 pub mod Items
+pub mod Callers

@@ -52,6 +52,9 @@ enum LeafRead {
     Refused(u8),
 }
 
+// How many leaves all conditions of a sheet may have together.
+const LEAVES: usize = 512;
+
 fn bit_of(b: bool) -> u64
     ensures { λ r. ⌜ (r ≡ bit b) × (r ≤ 1) ⌝ }
 {
@@ -135,7 +138,7 @@ fn field_leaf(s: &[u8], at: usize, w: u64, fields: &[u64], leaves: usize, neg: b
     let Found::At(i) = f else {
         return LeafRead::Refused(3);
     };
-    if 512 <= leaves {
+    if LEAVES <= leaves {
         return LeafRead::Refused(6);
     }
     comparison(s, at, i, neg)
@@ -158,7 +161,7 @@ fn known_leaf(
     let Found::At(i) = x else {
         return field_leaf(s, at, w, fields, leaves, neg);
     };
-    if 512 <= leaves {
+    if LEAVES <= leaves {
         return LeafRead::Refused(6);
     }
     LeafRead::Word(word_of(2 + bit_of(neg), i as u64, 0), at)
@@ -285,16 +288,8 @@ fn condition(
     let mut joined = false;
     loop {
         let at = p.bytes;
-        let r = and_list(
-            text::rest(s, at),
-            statuses,
-            fields,
-            words,
-            p.top,
-            p.leaves,
-            nest,
-            neg,
-        );
+        let t = text::rest(s, at);
+        let r = and_list(t, statuses, fields, words, p.top, p.leaves, nest, neg);
         let CondRead::At(q) = r else {
             return r;
         };
@@ -338,16 +333,8 @@ fn and_list(
     let mut joined = false;
     loop {
         let at = p.bytes;
-        let r = item(
-            text::rest(s, at),
-            statuses,
-            fields,
-            words,
-            p.top,
-            p.leaves,
-            nest,
-            neg,
-        );
+        let t = text::rest(s, at);
+        let r = item(t, statuses, fields, words, p.top, p.leaves, nest, neg);
         let CondRead::At(q) = r else {
             return r;
         };
@@ -390,16 +377,8 @@ fn item(
         if nest == 0 {
             return CondRead::Refused(5);
         }
-        let r = item(
-            text::rest(s, 4),
-            statuses,
-            fields,
-            words,
-            top,
-            leaves,
-            nest - 1,
-            !neg,
-        );
+        let t = text::rest(s, 4);
+        let r = item(t, statuses, fields, words, top, leaves, nest - 1, !neg);
         return behind(s, 4, r);
     }
     if !text::starts(s, b"(") {
@@ -408,16 +387,8 @@ fn item(
     if nest == 0 {
         return CondRead::Refused(5);
     }
-    let r = condition(
-        text::rest(s, 1),
-        statuses,
-        fields,
-        words,
-        top,
-        leaves,
-        nest - 1,
-        neg,
-    );
+    let t = text::rest(s, 1);
+    let r = condition(t, statuses, fields, words, top, leaves, nest - 1, neg);
     closed(s, r)
 }
 
