@@ -152,6 +152,11 @@ module _ (st fd : List Name) (d : ℕ) (neg : Bool) where
   }
 
 -- the turns of the and-list's loop
+pub and-less : (s : List ℕ) (at n : ℕ) (r : CondRead) (q : Place) (b : Bool) → r ≡ At q → b ≡ begins (text " and ") (drop n s) → not b ≡ false → n ≡ at + q .bytes → (m : ℕ) → m ≡ n + 5 → length s - m < length s - at
+and-less s at n r q b er eb h en m em =
+    let z : 5 ≤ length s - n = rw (← length-drop n s) (begins-fits (text " and ") (drop n s) (sym eb ∙ not-false b h)) in
+    omega arith
+
 module _ (st fd : List ℕ) (d : ℕ) (neg : Bool) (s : List ℕ) (top leaves : ℕ) (was : List ℕ) (y : Ready st fd was top leaves) where
   pub and-start : Going (ands (map named st) (map named fd) d neg) s top leaves was (record { bytes = 0; top = top; leaves = leaves }) false was
   and-start = going-start (ands (map named st) (map named fd) d neg) s top leaves was (y .few-leaves) (y .few-words)
@@ -190,13 +195,15 @@ module _ (st fd : List ℕ) (d : ℕ) (neg : Bool) (s : List ℕ) (top leaves : 
             unfolding ands
             and-on lm li m em = going-on (ands (map named st) (map named fd) d neg) s top leaves was p j now v t et r mid g q e n en next is ei ex b eb (not-false b h) lm li m em
 
-            pub and-less : (m : ℕ) → m ≡ n + 5 → length s - m < length s - p .bytes
-            and-less m em = omega (arith, and-far)
-
             pub and-fits : length s < 2 ^ 64 → (m : ℕ) → m ≡ n + 5 → Fits w64 m
             and-fits l m em = record { fits = omega (arith, and-far) }
 
 -- the turns of the condition's loop
+pub or-less : (s : List ℕ) (at n : ℕ) (r : CondRead) (q : Place) (b : Bool) → r ≡ At q → b ≡ begins (text " or ") (drop n s) → not b ≡ false → n ≡ at + q .bytes → (m : ℕ) → m ≡ n + 4 → length s - m < length s - at
+or-less s at n r q b er eb h en m em =
+    let z : 4 ≤ length s - n = rw (← length-drop n s) (begins-fits (text " or ") (drop n s) (sym eb ∙ not-false b h)) in
+    omega arith
+
 module _ (st fd : List ℕ) (d : ℕ) (neg : Bool) (s : List ℕ) (top leaves : ℕ) (was : List ℕ) (y : Ready st fd was top leaves) where
   pub or-start : Going (ors (map named st) (map named fd) d neg) s top leaves was (record { bytes = 0; top = top; leaves = leaves }) false was
   or-start = going-start (ors (map named st) (map named fd) d neg) s top leaves was (y .few-leaves) (y .few-words)
@@ -234,9 +241,6 @@ module _ (st fd : List ℕ) (d : ℕ) (neg : Bool) (s : List ℕ) (top leaves : 
                 → Going (ors (map named st) (map named fd) d neg) s top leaves was (record { bytes = m; top = next; leaves = q .leaves }) true is
             unfolding ors
             or-on lm li m em = going-on (ors (map named st) (map named fd) d neg) s top leaves was p j now v t et r mid g q e n en next is ei ex b eb (not-false b h) lm li m em
-
-            pub or-less : (m : ℕ) → m ≡ n + 4 → length s - m < length s - p .bytes
-            or-less m em = omega (arith, or-far)
 
             pub or-fits : length s < 2 ^ 64 → (m : ℕ) → m ≡ n + 4 → Fits w64 m
             or-fits l m em = record { fits = omega (arith, or-far) }

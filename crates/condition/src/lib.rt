@@ -280,33 +280,27 @@ fn condition(
     requires { ⌜ Ready (now statuses) (now fields) (now words) top leaves ⌝ }
     ensures { λ r. ⌜ Gives (wordsC neg false) leavesC (now (s .entry)) top leaves (readCond (readItem (map named (now (statuses .entry))) (map named (now (fields .entry))) nest) 513 leaves 0 (now (s .entry))) r (now (words .entry)) (now (words .exit)) ⌝ }
 {
-    let mut p = Place {
-        bytes: 0,
-        top,
-        leaves,
-    };
+    let mut at = 0;
+    let mut next = top;
+    let mut count = leaves;
     let mut joined = false;
     loop {
-        let at = p.bytes;
         let t = text::rest(s, at);
-        let r = and_list(t, statuses, fields, words, p.top, p.leaves, nest, neg);
+        let r = and_list(t, statuses, fields, words, next, count, nest, neg);
         let CondRead::At(q) = r else {
             return r;
         };
         let end = at + q.bytes;
-        let next = join_word(words, q.top, joined, !neg);
+        next = join_word(words, q.top, joined, !neg);
+        count = q.leaves;
         if !or_stands(s, end) {
             return CondRead::At(Place {
                 bytes: end,
                 top: next,
-                leaves: q.leaves,
+                leaves: count,
             });
         }
-        p = Place {
-            bytes: end + 4,
-            top: next,
-            leaves: q.leaves,
-        };
+        at = end + 4;
         joined = true;
     }
 }
@@ -325,33 +319,27 @@ fn and_list(
     requires { ⌜ Ready (now statuses) (now fields) (now words) top leaves ⌝ }
     ensures { λ r. ⌜ Gives (wordsA neg false) leavesA (now (s .entry)) top leaves (readAnd (readItem (map named (now (statuses .entry))) (map named (now (fields .entry))) nest) 513 leaves 0 (now (s .entry))) r (now (words .entry)) (now (words .exit)) ⌝ }
 {
-    let mut p = Place {
-        bytes: 0,
-        top,
-        leaves,
-    };
+    let mut at = 0;
+    let mut next = top;
+    let mut count = leaves;
     let mut joined = false;
     loop {
-        let at = p.bytes;
         let t = text::rest(s, at);
-        let r = item(t, statuses, fields, words, p.top, p.leaves, nest, neg);
+        let r = item(t, statuses, fields, words, next, count, nest, neg);
         let CondRead::At(q) = r else {
             return r;
         };
         let end = at + q.bytes;
-        let next = join_word(words, q.top, joined, neg);
+        next = join_word(words, q.top, joined, neg);
+        count = q.leaves;
         if !and_stands(s, end) {
             return CondRead::At(Place {
                 bytes: end,
                 top: next,
-                leaves: q.leaves,
+                leaves: count,
             });
         }
-        p = Place {
-            bytes: end + 5,
-            top: next,
-            leaves: q.leaves,
-        };
+        at = end + 5;
         joined = true;
     }
 }

@@ -1,6 +1,7 @@
+-- The three readers of a condition, which call each other, meet their contracts: each loop keeps that what answers the rest of its list answers the whole.
+-- The measure is the nesting that is left. Assumes nothing.
 use Prim.Native.Nat.{ℕ, _<_, _+_, _-_, _*_}
 use mathlib.Core.List.{map}
-use native.Mathlib.Omega.{arith}
 use borrow.Author.Needs.{needs}
 use lib.ListN.{length}
 use Rattle.text.specs.Packed.{named}
@@ -59,10 +60,11 @@ abbrev item-below : ℕ → In 4 item-kinds.ps
 item-below t = and 4 item-kinds.ps (falls 4 item-kinds.ps _<_ μ-item t) item.Pre
 
 abbrev and-list-Inv-loop : and-list-lts.InvT-loop
-and-list-Inv-loop s statuses fields words₀ top leaves nest neg p₀ joined₀ words p joined = Going (ands (map named statuses) (map named fields) nest neg) s top leaves words₀ p joined words
+and-list-Inv-loop s statuses fields words₀ top leaves nest neg at₀ next₀ count₀ joined₀ words at next count joined =
+    Going (ands (map named statuses) (map named fields) nest neg) s top leaves words₀ (record { bytes = at; top = next; leaves = count }) joined words
 
 abbrev and-list-μ-loop : and-list-lts.MeasureT-loop
-and-list-μ-loop s statuses fields words₀ top leaves nest neg p₀ joined₀ words p joined = length s - p .bytes
+and-list-μ-loop s statuses fields words₀ top leaves nest neg at₀ next₀ count₀ joined₀ words at next count joined = length s - at
 
 abbrev and-list-calls : ℕ → and-list-lts.Claims
 and-list-calls t = (rest-reads.Asked, rest-reads.Learnt, item-below t, item.Post, join-word-reads.Asked, join-word-reads.Learnt, and-stands-reads.Asked, and-stands-reads.Learnt)
@@ -109,8 +111,8 @@ and-list-same-length-2 t c = search (needs, and-turns)
 and-list-returns-2 : (t : ℕ) → and-list-lts.Need-returns-2 (and-list-calls t) (and-list-at t) and-list.Post and-list-Inv-loop and-list-μ-loop
 and-list-returns-2 t c = search (needs, and-turns)
 
-and-list-add-t24 : (t : ℕ) → and-list-lts.Need-add-t24 (and-list-calls t) (and-list-at t) and-list.Post and-list-Inv-loop and-list-μ-loop
-and-list-add-t24 t c = search (needs, and-turns)
+and-list-add-at : (t : ℕ) → and-list-lts.Need-add-at (and-list-calls t) (and-list-at t) and-list.Post and-list-Inv-loop and-list-μ-loop
+and-list-add-at t c = search (needs, and-turns)
 
 and-list-loop-less : (t : ℕ) → and-list-lts.Need-loop-less (and-list-calls t) (and-list-at t) and-list.Post and-list-Inv-loop and-list-μ-loop
 and-list-loop-less t c = search (needs, and-turns)
@@ -119,10 +121,11 @@ and-list-loop-again : (t : ℕ) → and-list-lts.Need-loop-again (and-list-calls
 and-list-loop-again t c = search (needs, and-turns)
 
 abbrev condition-Inv-loop : condition-lts.InvT-loop
-condition-Inv-loop s statuses fields words₀ top leaves nest neg p₀ joined₀ words p joined = Going (ors (map named statuses) (map named fields) nest neg) s top leaves words₀ p joined words
+condition-Inv-loop s statuses fields words₀ top leaves nest neg at₀ next₀ count₀ joined₀ words at next count joined =
+    Going (ors (map named statuses) (map named fields) nest neg) s top leaves words₀ (record { bytes = at; top = next; leaves = count }) joined words
 
 abbrev condition-μ-loop : condition-lts.MeasureT-loop
-condition-μ-loop s statuses fields words₀ top leaves nest neg p₀ joined₀ words p joined = length s - p .bytes
+condition-μ-loop s statuses fields words₀ top leaves nest neg at₀ next₀ count₀ joined₀ words at next count joined = length s - at
 
 condition-loop-holds : (t : ℕ) → condition-lts.Need-loop-holds (condition-calls t) (condition-at t) condition.Post condition-Inv-loop condition-μ-loop
 condition-loop-holds t c = search (needs, or-turns)
@@ -160,8 +163,8 @@ condition-same-length-2 t c = search (needs, or-turns)
 condition-returns-2 : (t : ℕ) → condition-lts.Need-returns-2 (condition-calls t) (condition-at t) condition.Post condition-Inv-loop condition-μ-loop
 condition-returns-2 t c = search (needs, or-turns)
 
-condition-add-t24 : (t : ℕ) → condition-lts.Need-add-t24 (condition-calls t) (condition-at t) condition.Post condition-Inv-loop condition-μ-loop
-condition-add-t24 t c = search (needs, or-turns)
+condition-add-at : (t : ℕ) → condition-lts.Need-add-at (condition-calls t) (condition-at t) condition.Post condition-Inv-loop condition-μ-loop
+condition-add-at t c = search (needs, or-turns)
 
 condition-loop-less : (t : ℕ) → condition-lts.Need-loop-less (condition-calls t) (condition-at t) condition.Post condition-Inv-loop condition-μ-loop
 condition-loop-less t c = search (needs, or-turns)
@@ -253,7 +256,7 @@ pub +and-list+condition+item-spec : {M : Type 1} → statement M
     (and-list-and-stands-requires t)
     (and-list-same-length-2 t)
     (and-list-returns-2 t)
-    (and-list-add-t24 t)
+    (and-list-add-at t)
     (and-list-loop-less t)
     (and-list-loop-again t))
     (λ t. condition-lts.spec (condition-calls t)
@@ -273,7 +276,7 @@ pub +and-list+condition+item-spec : {M : Type 1} → statement M
     (condition-or-stands-requires t)
     (condition-same-length-2 t)
     (condition-returns-2 t)
-    (condition-add-t24 t)
+    (condition-add-at t)
     (condition-loop-less t)
     (condition-loop-again t))
     λ t. item-lts.spec (item-calls t)
