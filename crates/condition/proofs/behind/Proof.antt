@@ -1,3 +1,5 @@
+-- `condition::behind` meets its contract: the bytes are those of the answer and n more, and they lie in the text.
+-- Assumes nothing.
 use borrow.Author.Needs.{needs}
 use Rattle.condition.proofs.Steps.{shifting}
 use Rattle.condition.proofs.behind.Statement.{statement}

@@ -1,3 +1,5 @@
+-- `condition::clear` meets its contract: the words from `i` on, cleared, would be those from `top` on, cleared; at the end none are left.
+-- Assumes nothing.
 use borrow.Author.Needs.{needs}
 use Prim.Native.Nat.{_≤_, _-_}
 use mathlib.Core.Path.{_≡_}

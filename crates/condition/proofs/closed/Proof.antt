@@ -1,3 +1,5 @@
+-- `condition::closed` meets its contract: what `due_text` tells of the rest behind the condition decides.
+-- Assumes nothing.
 use borrow.Author.Needs.{needs}
 use Rattle.condition.proofs.Steps.{closes}
 use Rattle.condition.proofs.closed.Statement.{statement}

@@ -1,3 +1,5 @@
+-- `condition::comparison` meets its contract: the sign, then the number behind it, decide as in the definition.
+-- Assumes nothing.
 use borrow.Author.Needs.{needs}
 use Rattle.condition.proofs.Leaves.{comparing, comparison-small}
 use Rattle.condition.proofs.comparison.Statement.{statement}

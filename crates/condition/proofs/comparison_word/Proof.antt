@@ -1,3 +1,5 @@
+-- `condition::comparison_word` meets its contract: each sign has its clause of `comparisonWord`.
+-- Assumes nothing.
 use borrow.Author.Needs.{needs}
 use Rattle.condition.proofs.Leaves.{signed}
 use Rattle.condition.proofs.comparison_word.Statement.{statement}

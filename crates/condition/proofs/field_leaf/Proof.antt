@@ -1,3 +1,5 @@
+-- `condition::field_leaf` meets its contract: the place that `find` tells, and the count of leaves, pick the case of the definition.
+-- Assumes nothing.
 use borrow.Author.Needs.{needs}
 use Rattle.condition.proofs.Leaves.{fielding}
 use Rattle.condition.proofs.field_leaf.Statement.{statement}

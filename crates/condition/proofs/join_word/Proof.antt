@@ -1,3 +1,5 @@
+-- `condition::join_word` meets its contract: the joining word is stored where something stands before, and nothing otherwise.
+-- Assumes nothing.
 use borrow.Author.Needs.{needs}
 use mathlib.Core.Path.{refl}
 use Rattle.condition.proofs.Steps.{joining, join-stored, join-none}

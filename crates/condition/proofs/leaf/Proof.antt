@@ -1,3 +1,5 @@
+-- `condition::leaf` meets its contract: the name decides, and comparing packed names finds what comparing names finds.
+-- Assumes nothing.
 use borrow.Author.Needs.{needs}
 use Rattle.condition.proofs.Leaves.{leafing}
 use Rattle.condition.proofs.leaf.Statement.{statement}

@@ -1,3 +1,5 @@
+-- `condition::leaf_item` meets its contract: the word is stored at `top`, where there is room since fewer than 512 leaves stand before.
+-- Assumes nothing.
 use borrow.Author.Needs.{needs}
 use Rattle.condition.proofs.Steps.{storing}
 use Rattle.condition.proofs.leaf_item.Statement.{statement}

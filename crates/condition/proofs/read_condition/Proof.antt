@@ -1,3 +1,5 @@
+-- `condition::read_condition` meets its contract: the reader of conditions at nesting 8 answers as the definition; where it refuses, the words from `top` on are cleared.
+-- Assumes nothing.
 use borrow.Author.Needs.{needs}
 use Rattle.condition.proofs.Items.{wholes}
 use Rattle.condition.proofs.read_condition.Statement.{statement}

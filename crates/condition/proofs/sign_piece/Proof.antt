@@ -1,3 +1,5 @@
+-- `condition::sign_piece` meets its contract: the texts are tried in the order of the definition.
+-- Assumes nothing.
 use borrow.Author.Needs.{needs}
 use Rattle.condition.proofs.Leaves.{signing}
 use Rattle.condition.proofs.sign_piece.Statement.{statement}

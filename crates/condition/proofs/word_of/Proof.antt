@@ -1,3 +1,5 @@
+-- `condition::word_of` meets its contract: the sum is that of the definition, and its parts are small enough.
+-- Assumes nothing.
 use Rattle.condition.specs.Flat.{word}
 use borrow.Author.Needs.{needs}
 use Rattle.condition.proofs.word_of.Statement.{statement}
