@@ -1,1 +1,3 @@
+-- The examples, and a large sheet:
 pub mod Examples
+pub mod Large

@@ -4,8 +4,8 @@ use mathlib.Core.Bool.{Bool, false, not, _&&_, _||_}
 use mathlib.Core.List.{List, [], _∷_}
 use mathlib.Core.Option.{Option, none, some}
 use lib.ListN.{length}
-use lib.Dec.{leb}
-use Rattle.meaning.specs.Text.{text, same, among, find}
+use lib.Dec.{leb, eqb}
+use Rattle.meaning.specs.Text.{text, same, run, among, find}
 use Rattle.meaning.specs.Refusal.{NAME}
 use Rattle.meaning.specs.Limits.{nameBytes}
 use Rattle.meaning.specs.Reading.{Reader, _>>=_, _>>_, give, refuse, demand, notEnded, longest}
@@ -33,7 +33,7 @@ reserved = text "on" ∷ text "if" ∷ text "or" ∷ text "and" ∷ text "not" �
 -- "1 to 12 lower-case letters and digits, a letter first, and none of" the reserved words
 unfoldable pub goodName : Name → Bool
 goodName [] = false
-goodName (x ∷ w) = letter x && leb (length (x ∷ w)) nameBytes && not (among (x ∷ w) reserved)
+goodName (x ∷ w) = letter x && eqb (run nameByte (x ∷ w)) (length (x ∷ w)) && leb (length (x ∷ w)) nameBytes && not (among (x ∷ w) reserved)
 
 -- "A name piece is the longest run of lower-case letters and digits"
 unfoldable pub name : Reader Name

@@ -95,6 +95,13 @@ module _ (fields events statuses : List Name) where
     lineEnd (cond asks COND LINE)
     give (record { sign = g; status = x; trigger = t; condition = c })
 
+  -- the rules, and "`end=N`, N the number of rule lines; nothing after it"
+  unfoldable pub rulesOf : Reader (List Rule)
+  rulesOf = do
+    rules ← section (text "rule=") ruleRow ruleLimit []
+    endLine (length rules)
+    give rules
+
 -- what stands above the rules, with the limits of its sections; "Stages and miles together: 0 to 32"
 unfoldable pub heads : Reader Sheet
 heads = do
@@ -108,16 +115,9 @@ heads = do
   miles ← section (text "mile=") (mileRow used stages) (statusLimit - length stages) []
   give (record { model = m; fields = fields; events = events; stages = stages; miles = miles; rules = [] })
 
--- the rules of a sheet of which the rest is known, and "`end=N`, N the number of rule lines"
-unfoldable pub rulesOf : Sheet → Reader (List Rule)
-rulesOf sh = do
-  rules ← section (text "rule=") (ruleRow (sh .fields) (eventNames (sh .events)) (statusNames (statuses sh))) ruleLimit []
-  endLine (length rules)
-  give rules
-
 -- the whole sheet
 unfoldable pub sheet : Reader Sheet
 sheet = do
   sh ← heads
-  rules ← rulesOf sh
+  rules ← rulesOf (sh .fields) (eventNames (sh .events)) (statusNames (statuses sh))
   give (withRules sh rules)

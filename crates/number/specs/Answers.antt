@@ -1,5 +1,5 @@
 -- What the code answers for what the meaning reads: one function for each type of answer.
-use Prim.Native.Nat.{ℕ, suc}
+use Prim.Native.Nat.{ℕ, zero, suc}
 use lib.ListN.{length}
 use Rattle.meaning.specs.Reading.{Got, got, wrong}
 use Rattle.meaning.specs.Number.{Written, Value, missing, number-at, Entry}
@@ -19,6 +19,11 @@ asNumber (wrong n l) = N.Refused n
 abbrev pub coded : Value → ℕ
 coded missing = 0
 coded (number-at v) = suc v
+
+-- the value that a number stands for
+unfoldable pub valueOf : ℕ → Value
+valueOf zero = missing
+valueOf (suc v) = number-at v
 
 -- an entry: its value, and the length of its text
 abbrev pub asEntry : Got Entry → EntryPiece

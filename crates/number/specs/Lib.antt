@@ -1,2 +1,4 @@
--- What the code answers for what the meaning reads:
+-- What the code answers for what the meaning reads, and the parts that the code goes through:
 pub mod Answers
+pub mod Digits
+pub mod Ending

@@ -1,16 +1,16 @@
 -- What a caller may conclude from the answers of this crate, for every line: what was read, and where the rest begins.
-use mathlib.Core.Path.{_≡_, refl, ap, sym, _∙_}
-use mathlib.Core.Bool.{Bool, true, false, cond, not}
+use mathlib.Core.Path.{_≡_, refl, sym, _∙_}
+use mathlib.Core.Bool.{Bool, true, false}
 use mathlib.Core.List.{List, [], _∷_, map}
 use mathlib.Core.Option.{Option, none, some}
-use Prim.Native.Nat.{ℕ, suc, _+_, _-_, _<_, _≤_}
+use Prim.Native.Nat.{ℕ, suc, _<_, _≤_}
 use native.Mathlib.Omega.{arith}
 use lib.Dec.{eqb}
-use lib.ListN.{length, drop, take, getD}
-use lib.Seq.{length-take-le}
+use lib.ListN.{length, drop, take}
 use Rattle.meaning.specs.Text.{text, begins, same, among, find, later, isIn}
-use Rattle.meaning.specs.Reading.{Got, got, wrong, notEnded, stands, due, lineEnd}
-use Rattle.meaning.specs.Name.{goodName, name, newName, dueName, known, placed}
+use Rattle.meaning.specs.Reading.{got, wrong, notEnded, stands, due, lineEnd}
+use Rattle.meaning.specs.Name.{goodName, name, newName, dueName, known}
+use Rattle.theory.specs.Names.{find-below}
 use Rattle.text.specs.declared.Bytes.{Bytes}
 use Rattle.text.specs.declared.Bytes.the-variants as B
 use Rattle.text.specs.declared.NamePiece.{NamePiece}
@@ -20,12 +20,14 @@ use Rattle.text.specs.declared.Known.the-variants as K
 use Rattle.text.specs.declared.Found.{Found}
 use Rattle.text.specs.declared.Found.the-variants as F
 use Rattle.text.specs.Packed.{packed, named}
-use Rattle.text.specs.Answers.{asBytes, asName, asKnown, foundIn, further}
+use Rattle.text.specs.Answers.{asBytes, asName, asKnown, foundIn}
 use Rattle.text.proofs.Laws as Laws
 use Rattle.text.proofs.Packs as Packs
 use Rattle.text.proofs.Packs.{Packable, placeOf}
-use Rattle.text.proofs.Pieces.{View, isName, isWrong, Spelt, view, taken-length, name-spelt, due-is, among-place, isPlace}
+use Rattle.text.proofs.Steps as Steps
+use Rattle.text.proofs.Steps.{Took, Step, took, failed, Bites}
 use Rattle.text.proofs.Pieces as Pieces
+use Rattle.text.proofs.Pieces.{Spelt, name-step, name-taken, due-is, among-place}
 
 -- NAMES AND THEIR NUMBERS, of a packable text w: what a reader of names gave is one
 pub named-packed : (w : List ℕ) → Packable w → named (packed w) ≡ w
@@ -54,7 +56,7 @@ module _ (w : List ℕ) (p : Packable w) (vs : List ℕ) (f : Found) (is : f ≡
   pub among-nothing : f ≡ F.Nothing → among w (map named vs) ≡ false
   among-nothing e = among-place w (map named vs) ∙ rw (find-nothing e)
 
--- a place lies in the table, and the number stands there
+-- a place that is found lies in the table
 pub found-within : (v : ℕ) (vs : List ℕ) (i : ℕ) → foundIn v vs ≡ F.At i → i < length vs
 found-within = Laws.found-within
 
@@ -65,263 +67,153 @@ module _ (p : NamePiece) (t : List ℕ) (is : p ≡ asName (name 0 t)) where
 
   module _ (v n : ℕ) (told : p ≡ N.Name v n) where
     pub name-got : (l : ℕ) → name l t ≡ got (take n t) l (drop n t)
-    name-got = name-spelt p t is v n told .0 .reads
+    name-got = name-taken p t is v n told .0 .reads
 
     pub name-number : v ≡ packed (take n t)
-    name-number = name-spelt p t is v n told .1
+    name-number = name-taken p t is v n told .1
 
     pub name-packable : Packable (take n t)
-    name-packable = name-spelt p t is v n told .0 .packable
+    name-packable = name-taken p t is v n told .0 .also .1 .packable
 
     pub name-named : named v ≡ take n t
     name-named = rw name-number (Packs.named-packed (take n t) name-packable)
 
     pub name-good : goodName (take n t) ≡ true
-    name-good = name-spelt p t is v n told .0 .good
+    name-good = name-taken p t is v n told .0 .also .1 .good
 
     pub name-fits : n ≤ length t
-    name-fits = name-spelt p t is v n told .0 .within
+    name-fits = name-taken p t is v n told .0 .within
 
     pub name-some : 1 ≤ n
-    name-some = name-spelt p t is v n told .0 .some
+    name-some = name-taken p t is v n told .0 .also .1 .some
 
     pub name-few : n ≤ 12
-    name-few = name-spelt p t is v n told .0 .few
+    name-few = name-taken p t is v n told .0 .also .1 .few
 
 -- NEW NAMES, from the answer p of new_name
-new-is : (t : List ℕ) (n : ℕ) → Spelt t n → (used : List (List ℕ)) (b : Bool) → among (take n t) used ≡ b → (l : ℕ)
-    → newName used l t ≡ cond b (wrong 3 l) (got (take n t) l (drop n t))
-unfolding newName
-new-is t n s used true e l = rw (s .reads l, e)
-new-is t n s used false e l = rw (s .reads l, e)
+-- a good name that is not used
+abbrev Fresh : List ℕ → List (List ℕ) → ℕ → Type 0
+Fresh t used n = Spelt t n × (among (take n t) used ≡ false)
 
-new-not : (t : List ℕ) (k : ℕ) → ((l : ℕ) → name l t ≡ wrong k l) → (used : List (List ℕ)) (l : ℕ) → newName used l t ≡ wrong k l
+new-step : (used : List (List ℕ)) (t : List ℕ) → Step (newName used) (Bites t (Fresh t used)) t
 unfolding newName
-new-not t k s used l = rw (s l)
+new-step used t = go (name-step t)
+  where
+    tested : (n : ℕ) (w : List ℕ) → Took name (Bites t (Spelt t)) t n w → (b : Bool) → among w used ≡ b → Step (newName used) (Bites t (Fresh t used)) t
+    tested n w s true e = failed 3 (λ l. rw (s .reads l, e))
+    tested n w s false e = took n w record { within = s .within; also = (s .also .0, (s .also .1, rw (s .also .0) at e)); reads = λ l. rw (s .reads l, e) }
+
+    go : Step name (Bites t (Spelt t)) t → Step (newName used) (Bites t (Fresh t used)) t
+    go (took n w s) = tested n w s (among w used) refl
+    go (failed k s) = failed k (λ l. rw (s l))
 
 module _ (p : NamePiece) (used : List (List ℕ)) (t : List ℕ) (is : p ≡ asName (newName used 0 t)) where
   pub new-name-wrong : (k : ℕ) → p ≡ N.Refused k → (l : ℕ) → newName used l t ≡ wrong k l
-  new-name-wrong k told l = go (view t)
-    where
-      tested : (m : ℕ) → Spelt t m → (b : Bool) → among (take m t) used ≡ b → newName used l t ≡ wrong k l
-      tested m s true e =
-          let q : asName (newName used 0 t) ≡ N.Refused 3 = rw (new-is t m s used true e 0) in
-          let z : k ≡ 3 = cc in
-          rw z (new-is t m s used true e l)
-      tested m s false e =
-          let q : asName (newName used 0 t) ≡ N.Name (packed (take m t)) (length (take m t)) = rw (new-is t m s used false e 0) in
-          let z : _≡_ {A = ℕ} 0 1 = cc in
-          absurd (omega arith)
-
-      go : View t → newName used l t ≡ wrong k l
-      go (isName m s) = tested m s (among (take m t) used) refl
-      go (isWrong j s) =
-          let q : asName (newName used 0 t) ≡ N.Refused j = rw (new-not t j s used 0) in
-          let z : k ≡ j = cc in
-          rw z (new-not t j s used l)
+  new-name-wrong = Steps.name-wrong (newName used) (Fresh t used) t p is (new-step used t)
 
   module _ (v n : ℕ) (told : p ≡ N.Name v n) where
-    new-spelt : Spelt t n × ((v ≡ packed (take n t)) × (among (take n t) used ≡ false))
-    new-spelt = go (view t)
-      where
-        tested : (m : ℕ) → Spelt t m → (b : Bool) → among (take m t) used ≡ b → Spelt t n × ((v ≡ packed (take n t)) × (among (take n t) used ≡ false))
-        tested m s true e =
-            let q : asName (newName used 0 t) ≡ N.Refused 3 = rw (new-is t m s used true e 0) in
-            let z : _≡_ {A = ℕ} 0 1 = cc in
-            absurd (omega arith)
-        tested m s false e =
-            let q : asName (newName used 0 t) ≡ N.Name (packed (take m t)) (length (take m t)) = rw (new-is t m s used false e 0) in
-            let a : v ≡ packed (take m t) = cc in
-            let b : n ≡ length (take m t) = cc in
-            let z : n ≡ m = omega (arith, length-take-le m t (s .within)) in
-            rw z (s, (a, e))
-
-        go : View t → Spelt t n × ((v ≡ packed (take n t)) × (among (take n t) used ≡ false))
-        go (isName m s) = tested m s (among (take m t) used) refl
-        go (isWrong j s) =
-            let q : asName (newName used 0 t) ≡ N.Refused j = rw (new-not t j s used 0) in
-            let z : _≡_ {A = ℕ} 0 1 = cc in
-            absurd (omega arith)
-
-    pub new-name-unused : among (take n t) used ≡ false
-    new-name-unused = new-spelt .1 .1
+    new-taken : Took (newName used) (Bites t (Fresh t used)) t n (take n t) × (v ≡ packed (take n t))
+    new-taken = Steps.name-took (newName used) (Fresh t used) t p is (new-step used t) v n told
 
     pub new-name-got : (l : ℕ) → newName used l t ≡ got (take n t) l (drop n t)
-    new-name-got l = new-is t n (new-spelt .0) used false new-name-unused l
+    new-name-got = new-taken .0 .reads
 
     pub new-name-number : v ≡ packed (take n t)
-    new-name-number = new-spelt .1 .0
+    new-name-number = new-taken .1
 
     pub new-name-packable : Packable (take n t)
-    new-name-packable = new-spelt .0 .packable
+    new-name-packable = new-taken .0 .also .1 .0 .packable
 
     pub new-name-named : named v ≡ take n t
     new-name-named = rw new-name-number (Packs.named-packed (take n t) new-name-packable)
 
     pub new-name-good : goodName (take n t) ≡ true
-    new-name-good = new-spelt .0 .good
+    new-name-good = new-taken .0 .also .1 .0 .good
+
+    pub new-name-unused : among (take n t) used ≡ false
+    new-name-unused = new-taken .0 .also .1 .1
 
     pub new-name-fits : n ≤ length t
-    new-name-fits = new-spelt .0 .within
+    new-name-fits = new-taken .0 .within
 
     pub new-name-some : 1 ≤ n
-    new-name-some = new-spelt .0 .some
+    new-name-some = new-taken .0 .also .1 .0 .some
 
     pub new-name-few : n ≤ 12
-    new-name-few = new-spelt .0 .few
+    new-name-few = new-taken .0 .also .1 .0 .few
 
 -- NAMES OF A TABLE, from the answer p of known_name
-known-is : (t : List ℕ) (n : ℕ) → Spelt t n → (ns : List (List ℕ)) (o : Option ℕ) → find (take n t) ns ≡ o → (l : ℕ)
-    → known ns l t ≡ placed o l (drop n t)
-unfolding known
-known-is t n s ns o e l = rw (s .reads l, e)
+-- a good name, at a place of the table
+abbrev Held : List ℕ → List (List ℕ) → ℕ → ℕ → Type 0
+Held t ns n i = Spelt t n × (i < length ns)
 
-known-not : (t : List ℕ) (k : ℕ) → ((l : ℕ) → name l t ≡ wrong k l) → (ns : List (List ℕ)) (l : ℕ) → known ns l t ≡ wrong k l
+known-step : (ns : List (List ℕ)) (t : List ℕ) → Step (known ns) (Held t ns) t
 unfolding known
-known-not t k s ns l = rw (s l)
-
-find-within : (w : List ℕ) (ns : List (List ℕ)) (i : ℕ) → find w ns ≡ some i → i < length ns
-unfolding find
-find-within w [] i e =
-    let z : _≡_ {A = ℕ} 0 1 = cc in
-    absurd (omega arith)
-find-within w (k ∷ ns) i e = go (same w k) (find w ns) e (find-within w ns)
+known-step ns t = go (name-step t)
   where
-    go : (b : Bool) (o : Option ℕ) → elim b [ true ↦ some 0 | false ↦ later o ] ≡ some i → ((j : ℕ) → o ≡ some j → j < length ns) → i < suc (length ns)
-    go true o e ih =
-        let z : 0 ≡ i = cc in
-        omega arith
-    go false none e ih =
-        let z : _≡_ {A = ℕ} 0 1 = cc in
-        absurd (omega arith)
-    go false (some j) e ih =
-        let z : suc j ≡ i = cc in
-        omega (arith, ih j refl)
+    tested : (n : ℕ) (w : List ℕ) → Took name (Bites t (Spelt t)) t n w → (o : Option ℕ) → find w ns ≡ o → Step (known ns) (Held t ns) t
+    tested n w s none e = failed 3 (λ l. rw (s .reads l, e))
+    tested n w s (some i) e = took n i record { within = s .within; also = (s .also .1, find-below w ns i e); reads = λ l. rw (s .reads l, e) }
+
+    go : Step name (Bites t (Spelt t)) t → Step (known ns) (Held t ns) t
+    go (took n w s) = tested n w s (find w ns) refl
+    go (failed k s) = failed k (λ l. rw (s l))
 
 module _ (p : Known) (ns : List (List ℕ)) (t : List ℕ) (is : p ≡ asKnown t (known ns 0 t)) where
   pub known-wrong : (k : ℕ) → p ≡ K.Refused k → (l : ℕ) → known ns l t ≡ wrong k l
-  known-wrong k told l = go (view t)
-    where
-      tested : (m : ℕ) → Spelt t m → (o : Option ℕ) → find (take m t) ns ≡ o → known ns l t ≡ wrong k l
-      tested m s none e =
-          let q : asKnown t (known ns 0 t) ≡ K.Refused 3 = rw (known-is t m s ns none e 0) in
-          let z : k ≡ 3 = cc in
-          rw z (known-is t m s ns none e l)
-      tested m s (some i) e =
-          let q : asKnown t (known ns 0 t) ≡ K.At i (length t - length (drop m t)) = rw (known-is t m s ns (some i) e 0) in
-          let z : _≡_ {A = ℕ} 0 1 = cc in
-          absurd (omega arith)
-
-      go : View t → known ns l t ≡ wrong k l
-      go (isName m s) = tested m s (find (take m t) ns) refl
-      go (isWrong j s) =
-          let q : asKnown t (known ns 0 t) ≡ K.Refused j = rw (known-not t j s ns 0) in
-          let z : k ≡ j = cc in
-          rw z (known-not t j s ns l)
+  known-wrong = Steps.known-wrong (known ns) (Held t ns) t p is (known-step ns t)
 
   module _ (i n : ℕ) (told : p ≡ K.At i n) where
-    known-spelt : Spelt t n × (find (take n t) ns ≡ some i)
-    known-spelt = go (view t)
-      where
-        tested : (m : ℕ) → Spelt t m → (o : Option ℕ) → find (take m t) ns ≡ o → Spelt t n × (find (take n t) ns ≡ some i)
-        tested m s none e =
-            let q : asKnown t (known ns 0 t) ≡ K.Refused 3 = rw (known-is t m s ns none e 0) in
-            let z : _≡_ {A = ℕ} 0 1 = cc in
-            absurd (omega arith)
-        tested m s (some j) e =
-            let q : asKnown t (known ns 0 t) ≡ K.At j (length t - length (drop m t)) = rw (known-is t m s ns (some j) e 0) in
-            let a : i ≡ j = cc in
-            let b : n ≡ length t - length (drop m t) = cc in
-            let z : n ≡ m = b ∙ taken-length t m (s .within) in
-            rw (z, a) (s, e)
-
-        go : View t → Spelt t n × (find (take n t) ns ≡ some i)
-        go (isName m s) = tested m s (find (take m t) ns) refl
-        go (isWrong j s) =
-            let q : asKnown t (known ns 0 t) ≡ K.Refused j = rw (known-not t j s ns 0) in
-            let z : _≡_ {A = ℕ} 0 1 = cc in
-            absurd (omega arith)
+    known-taken : Took (known ns) (Held t ns) t n i
+    known-taken = Steps.known-took (known ns) (Held t ns) t p is (known-step ns t) i n told
 
     pub known-got : (l : ℕ) → known ns l t ≡ got i l (drop n t)
-    known-got l = known-is t n (known-spelt .0) ns (some i) (known-spelt .1) l
+    known-got = known-taken .reads
 
     pub known-place : i < length ns
-    known-place = find-within (take n t) ns i (known-spelt .1)
+    known-place = known-taken .also .1
 
     pub known-fits : n ≤ length t
-    known-fits = known-spelt .0 .within
+    known-fits = known-taken .within
 
     pub known-some : 1 ≤ n
-    known-some = known-spelt .0 .some
+    known-some = known-taken .also .0 .some
 
     pub known-few : n ≤ 12
-    known-few = known-spelt .0 .few
+    known-few = known-taken .also .0 .few
 
 -- THE NAME THAT IS DUE, from the answer p of due_name
-due-name-is : (t : List ℕ) (n : ℕ) → Spelt t n → (w : List ℕ) (b : Bool) → same (take n t) w ≡ b → (l : ℕ)
-    → dueName w l t ≡ cond b (got tt l (drop n t)) (wrong 3 l)
+due-name-step : (w : List ℕ) (t : List ℕ) → Step (dueName w) (λ n u. Spelt t n) t
 unfolding dueName
-due-name-is t n s w true e l = rw (s .reads l, e)
-due-name-is t n s w false e l = rw (s .reads l, e)
+due-name-step w t = go (name-step t)
+  where
+    tested : (n : ℕ) (u : List ℕ) → Took name (Bites t (Spelt t)) t n u → (b : Bool) → same u w ≡ b → Step (dueName w) (λ n u. Spelt t n) t
+    tested n u s true e = took n tt record { within = s .within; also = s .also .1; reads = λ l. rw (s .reads l, e) }
+    tested n u s false e = failed 3 (λ l. rw (s .reads l, e))
 
-due-name-not : (t : List ℕ) (k : ℕ) → ((l : ℕ) → name l t ≡ wrong k l) → (w : List ℕ) (l : ℕ) → dueName w l t ≡ wrong k l
-unfolding dueName
-due-name-not t k s w l = rw (s l)
+    go : Step name (Bites t (Spelt t)) t → Step (dueName w) (λ n u. Spelt t n) t
+    go (took n u s) = tested n u s (same u w) refl
+    go (failed k s) = failed k (λ l. rw (s l))
 
 module _ (p : Bytes) (w : List ℕ) (t : List ℕ) (is : p ≡ asBytes t (dueName w 0 t)) where
   pub due-name-wrong : (k : ℕ) → p ≡ B.Refused k → (l : ℕ) → dueName w l t ≡ wrong k l
-  due-name-wrong k told l = go (view t)
-    where
-      tested : (m : ℕ) → Spelt t m → (b : Bool) → same (take m t) w ≡ b → dueName w l t ≡ wrong k l
-      tested m s true e =
-          let q : asBytes t (dueName w 0 t) ≡ B.Read (length t - length (drop m t)) = rw (due-name-is t m s w true e 0) in
-          let z : _≡_ {A = ℕ} 0 1 = cc in
-          absurd (omega arith)
-      tested m s false e =
-          let q : asBytes t (dueName w 0 t) ≡ B.Refused 3 = rw (due-name-is t m s w false e 0) in
-          let z : k ≡ 3 = cc in
-          rw z (due-name-is t m s w false e l)
-
-      go : View t → dueName w l t ≡ wrong k l
-      go (isName m s) = tested m s (same (take m t) w) refl
-      go (isWrong j s) =
-          let q : asBytes t (dueName w 0 t) ≡ B.Refused j = rw (due-name-not t j s w 0) in
-          let z : k ≡ j = cc in
-          rw z (due-name-not t j s w l)
+  due-name-wrong = Steps.bytes-wrong (dueName w) (λ n u. Spelt t n) t p is (due-name-step w t)
 
   module _ (n : ℕ) (told : p ≡ B.Read n) where
-    due-spelt : Spelt t n × (same (take n t) w ≡ true)
-    due-spelt = go (view t)
-      where
-        tested : (m : ℕ) → Spelt t m → (b : Bool) → same (take m t) w ≡ b → Spelt t n × (same (take n t) w ≡ true)
-        tested m s true e =
-            let q : asBytes t (dueName w 0 t) ≡ B.Read (length t - length (drop m t)) = rw (due-name-is t m s w true e 0) in
-            let b : n ≡ length t - length (drop m t) = cc in
-            let z : n ≡ m = b ∙ taken-length t m (s .within) in
-            rw z (s, e)
-        tested m s false e =
-            let q : asBytes t (dueName w 0 t) ≡ B.Refused 3 = rw (due-name-is t m s w false e 0) in
-            let z : _≡_ {A = ℕ} 0 1 = cc in
-            absurd (omega arith)
-
-        go : View t → Spelt t n × (same (take n t) w ≡ true)
-        go (isName m s) = tested m s (same (take m t) w) refl
-        go (isWrong j s) =
-            let q : asBytes t (dueName w 0 t) ≡ B.Refused j = rw (due-name-not t j s w 0) in
-            let z : _≡_ {A = ℕ} 0 1 = cc in
-            absurd (omega arith)
+    due-taken : Took (dueName w) (λ n u. Spelt t n) t n tt
+    due-taken = Steps.bytes-took (dueName w) (λ n u. Spelt t n) t p is (due-name-step w t) n told
 
     pub due-name-got : (l : ℕ) → dueName w l t ≡ got tt l (drop n t)
-    due-name-got l = due-name-is t n (due-spelt .0) w true (due-spelt .1) l
+    due-name-got = due-taken .reads
 
     pub due-name-fits : n ≤ length t
-    due-name-fits = due-spelt .0 .within
+    due-name-fits = due-taken .within
 
     pub due-name-some : 1 ≤ n
-    due-name-some = due-spelt .0 .some
+    due-name-some = due-taken .also .some
 
     pub due-name-few : n ≤ 12
-    due-name-few = due-spelt .0 .few
+    due-name-few = due-taken .also .few
 
 -- FIXED TEXTS: what begins with a text is as long as it
 pub begins-fits : (k t : List ℕ) → begins k t ≡ true → length k ≤ length t
@@ -349,50 +241,30 @@ pub due-not : (n : ℕ) (k : List ℕ) (l : ℕ) (t : List ℕ) → (length t �
 due-not n k l t h b e q = due-is l t k n h false (sym e ∙ q)
 
 -- a text that is due, from the answer p of due_text
+due-step : (n : ℕ) (k t : List ℕ) → Step (due n k) (λ m u. m ≡ length k) t
+due-step n k [] = failed 2 (λ l. due-ended n k l [] refl)
+due-step n k (x ∷ t) = go (begins k (x ∷ t)) refl
+  where
+    go : (b : Bool) → begins k (x ∷ t) ≡ b → Step (due n k) (λ m u. m ≡ length k) (x ∷ t)
+    go true e = took (length k) tt record { within = Laws.begins-fits k (x ∷ t) e; also = refl; reads = λ l. due-is l (x ∷ t) k n (λ h. omega arith) true e }
+    go false e = failed n (λ l. due-is l (x ∷ t) k n (λ h. omega arith) false e)
+
 module _ (p : Bytes) (n : ℕ) (k t : List ℕ) (is : p ≡ asBytes t (due n k 0 t)) where
   pub due-wrong : (j : ℕ) → p ≡ B.Refused j → (l : ℕ) → due n k l t ≡ wrong j l
-  due-wrong j told l = go t is (begins k t) refl
-    where
-      go : (t : List ℕ) → p ≡ asBytes t (due n k 0 t) → (b : Bool) → begins k t ≡ b → due n k l t ≡ wrong j l
-      go [] is b e =
-          let q : asBytes [] (due n k 0 []) ≡ B.Refused 2 = rw (due-ended n k 0 [] refl) in
-          let z : j ≡ 2 = cc in
-          rw z (due-ended n k l [] refl)
-      go (x ∷ t) is true e =
-          let q : asBytes (x ∷ t) (due n k 0 (x ∷ t)) ≡ B.Read (length (x ∷ t) - length (drop (length k) (x ∷ t))) = rw (due-is 0 (x ∷ t) k n (λ h. omega arith) true e) in
-          let z : _≡_ {A = ℕ} 0 1 = cc in
-          absurd (omega arith)
-      go (x ∷ t) is false e =
-          let q : asBytes (x ∷ t) (due n k 0 (x ∷ t)) ≡ B.Refused n = rw (due-is 0 (x ∷ t) k n (λ h. omega arith) false e) in
-          let z : j ≡ n = cc in
-          rw z (due-is l (x ∷ t) k n (λ h. omega arith) false e)
+  due-wrong = Steps.bytes-wrong (due n k) (λ m u. m ≡ length k) t p is (due-step n k t)
 
   module _ (m : ℕ) (told : p ≡ B.Read m) where
-    due-begins : (begins k t ≡ true) × ((length t ≡ 0 → ⊥) × (m ≡ length k))
-    due-begins = go t is (begins k t) refl
-      where
-        go : (t : List ℕ) → p ≡ asBytes t (due n k 0 t) → (b : Bool) → begins k t ≡ b → (begins k t ≡ true) × ((length t ≡ 0 → ⊥) × (m ≡ length k))
-        go [] is b e =
-            let q : asBytes [] (due n k 0 []) ≡ B.Refused 2 = rw (due-ended n k 0 [] refl) in
-            let z : _≡_ {A = ℕ} 0 1 = cc in
-            absurd (omega arith)
-        go (x ∷ t) is true e =
-            let q : asBytes (x ∷ t) (due n k 0 (x ∷ t)) ≡ B.Read (length (x ∷ t) - length (drop (length k) (x ∷ t))) = rw (due-is 0 (x ∷ t) k n (λ h. omega arith) true e) in
-            let z : m ≡ length (x ∷ t) - length (drop (length k) (x ∷ t)) = cc in
-            (e, ((λ h. omega arith), z ∙ taken-length (x ∷ t) (length k) (Laws.begins-fits k (x ∷ t) e)))
-        go (x ∷ t) is false e =
-            let q : asBytes (x ∷ t) (due n k 0 (x ∷ t)) ≡ B.Refused n = rw (due-is 0 (x ∷ t) k n (λ h. omega arith) false e) in
-            let z : _≡_ {A = ℕ} 0 1 = cc in
-            absurd (omega arith)
-
-    pub due-length : m ≡ length k
-    due-length = due-begins .1 .1
+    text-taken : Took (due n k) (λ m u. m ≡ length k) t m tt
+    text-taken = Steps.bytes-took (due n k) (λ m u. m ≡ length k) t p is (due-step n k t) m told
 
     pub due-got : (l : ℕ) → due n k l t ≡ got tt l (drop m t)
-    due-got l = rw due-length (due-is l t k n (due-begins .1 .0) true (due-begins .0))
+    due-got = text-taken .reads
+
+    pub due-length : m ≡ length k
+    due-length = text-taken .also
 
     pub due-fits : m ≤ length t
-    due-fits = omega (arith, due-length, Laws.begins-fits k t (due-begins .0))
+    due-fits = text-taken .within
 
 -- the end of a line, from the test
 module _ (n l : ℕ) (t : List ℕ) where

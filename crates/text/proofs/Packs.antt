@@ -1,22 +1,21 @@
 -- Names packed: the number of a name stands for that name alone, and fits 64 bits.
-use mathlib.Core.Path.{_≡_, refl, ap, ap₂, sym, _∙_}
-use mathlib.Core.Bool.{Bool, true, false, _&&_, _||_, true≢false, false≢true}
+use mathlib.Core.Path.{_≡_, refl, ap₂, sym, _∙_}
+use mathlib.Core.Bool.{Bool, true, false, _&&_, _||_, false≢true}
 use mathlib.Core.List.{List, [], _∷_, map}
 use mathlib.Core.Logic.{_⊎_, inl, inr, ⊎-elim}
 use mathlib.Core.Option.{Option, none, some}
 use Prim.Native.Nat.{ℕ, zero, suc, _+_, _-_, _*_, _/_, _%_, _<_, _≤_}
 use native.Mathlib.Omega.{arith}
-use native.Mathlib.Numerals.{add-one}
 use native.Mathlib.Decide.{ℕ-discrete, decLt}
-use native.Mathlib.Nat.{mod-add-div, mod-lt}
 use mir.Val.{Fits}
 use mir.Syntax.{w64}
-use borrow.Author.Tests.{eq-eqb, ne-eqb, le-leb, lt-leb, leb-true, eqb-true, eqb-false}
+use borrow.Author.Tests.{eq-eqb, ne-eqb, le-leb, lt-leb, leb-true, eqb-true}
 use lib.Dec.{eqb, leb}
 use lib.ListN.{length, drop, take, getD, drop-of-length-le, length-drop}
 use lib.Seq.{drop-cons, length-take-le, getD-take}
 use Rattle.meaning.specs.Text.{run, same, among, find, later, any, isIn}
 use Rattle.meaning.specs.Name.{letter, digit, nameByte, reserved}
+use Rattle.theory.specs.Names.{same-self, same-equal}
 use Rattle.text.specs.declared.Found.{Found}
 use Rattle.text.specs.declared.Found.the-variants as F
 use Rattle.text.specs.Packed.{symbol, byteOf, packed, namedIn, named}
@@ -196,7 +195,7 @@ named-only (x ∷ w) (suc k) v e h p = go (ℕ-discrete v 0) (named-only w k (v 
         let d : symbol x ≡ v % 38 = rw (← first) (symbol-byte (v % 38) (rw first (p .0))) in
         omega (arith, ih others (omega arith) (p .1))
 
--- a text for which its number stands: no longer than a name, all of it name bytes. A name that is read is one; `goodName` alone tests the first byte only
+-- a text for which its number stands: no longer than a name, all of it name bytes. A good name is one, and so is a reserved word
 pub record Packable (w : List ℕ) : Type 0 where
   pub plain : Plain w
   pub short : length w ≤ 12
@@ -204,22 +203,6 @@ pub record Packable (w : List ℕ) : Type 0 where
 pub named-packed : (w : List ℕ) → Packable w → named (packed w) ≡ w
 unfolding named
 named-packed w p = named-back 13 w (omega arith) (p .plain)
-
-same-refl : (w : List ℕ) → same w w ≡ true
-unfolding same
-same-refl [] = refl
-same-refl (x ∷ w) = rw (eq-eqb x x refl, same) (same-refl w)
-
-same-equal : (w u : List ℕ) → same w u ≡ true → w ≡ u
-unfolding same
-same-equal [] [] e = refl
-same-equal [] (y ∷ u) e = absurd (false≢true e)
-same-equal (x ∷ w) [] e = absurd (false≢true e)
-same-equal (x ∷ w) (y ∷ u) e = go (eqb x y) refl e (same-equal w u)
-  where
-    go : (b : Bool) → eqb x y ≡ b → elim b [ true ↦ same w u | false ↦ false ] ≡ true → (same w u ≡ true → w ≡ u) → x ∷ w ≡ y ∷ u
-    go true e q ih = ap₂ (λ a r. a ∷ r) (eqb-true x y e) (ih q)
-    go false e q ih = absurd (false≢true q)
 
 -- what was found, as a place
 abbrev pub placeOf : Found → Option ℕ
@@ -237,7 +220,7 @@ module _ (w : List ℕ) (p : Packable w) where
   same-named v = go (ℕ-discrete (packed w) v) (same w (named v)) refl
     where
       go : Dec (packed w ≡ v) → (b : Bool) → same w (named v) ≡ b → same w (named v) ≡ eqb (packed w) v
-      go (yes e) b q = rw (← e, named-packed w p, same-refl w) (sym (eq-eqb (packed w) (packed w) refl))
+      go (yes e) b q = rw (← e, named-packed w p, same-self w) (sym (eq-eqb (packed w) (packed w) refl))
       go (no e) true q = absurd (e (sym (named-only w 12 v (sym (same-equal w (named v) q)) (p .short) (p .plain))))
       go (no e) false q = q ∙ sym (ne-eqb (packed w) v e)
 

@@ -1,29 +1,30 @@
 -- The readers of names and fixed texts, as the code answers them.
 use mathlib.Core.Path.{_≡_, refl, ap, sym, _∙_}
-use mathlib.Core.Bool.{Bool, true, false, cond, not, _&&_, _||_, and-false, true≢false, false≢true}
+use mathlib.Core.Bool.{Bool, true, false, cond, not, _&&_, _||_, and-true, and-false, false≢true}
 use mathlib.Core.List.{List, [], _∷_, map}
 use mathlib.Core.Option.{Option, none, some}
-use Prim.Native.Nat.{ℕ, zero, suc, _+_, _-_, _<_, _≤_}
+use Prim.Native.Nat.{ℕ, suc, _-_, _<_, _≤_}
 use native.Mathlib.Omega.{arith}
 use borrow.Author.Tests.{not-true, not-false, leb-true, le-leb, lt-leb, eq-eqb, ne-eqb}
-use lib.Dec.{eqb, leb}
-use lib.ListN.{length, drop, take, getD, length-drop}
+use lib.Dec.{leb, eqb}
+use lib.ListN.{length, drop, take, getD}
 use lib.Seq.{length-take-le}
-use Rattle.meaning.specs.Text.{run, begins, same, among, find, later, any, isIn}
-use Rattle.meaning.specs.Reading.{Got, got, wrong, notEnded, stands, due, longest, choose}
-use Rattle.meaning.specs.Name.{letter, digit, nameByte, reserved, goodName, name, newName, dueName, known, placed}
-use Rattle.text.specs.declared.Bytes.{Bytes}
+use Rattle.meaning.specs.Text.{run, begins, same, among, find, later, isIn}
+use Rattle.meaning.specs.Reading.{got, wrong, notEnded, stands, due, longest}
+use Rattle.meaning.specs.Name.{letter, digit, nameByte, reserved, goodName, name, newName, dueName, known}
+use Rattle.theory.specs.Names.{run-taken, good-short}
 use Rattle.text.specs.declared.Bytes.the-variants as B
 use Rattle.text.specs.declared.NamePiece.{NamePiece}
 use Rattle.text.specs.declared.NamePiece.the-variants as N
-use Rattle.text.specs.declared.Known.{Known}
 use Rattle.text.specs.declared.Known.the-variants as K
 use Rattle.text.specs.declared.Found.{Found}
 use Rattle.text.specs.declared.Found.the-variants as F
 use Rattle.text.specs.Packed.{packed, named}
-use Rattle.text.specs.Answers.{asBytes, asName, asKnown, foundIn, further}
+use Rattle.text.specs.Answers.{asBytes, asName, asKnown, foundIn}
 use Rattle.text.proofs.Laws.{run-cons, run-halt, run-le, begins-fits}
-use Rattle.text.proofs.Packs.{Plain, Packable, plain-run, length-run, same-named, reserved-named, among-named, find-named, placeOf, and-both}
+use Rattle.text.proofs.Steps as Steps
+use Rattle.text.proofs.Steps.{Took, Step, took, failed, Bites, taken-length}
+use Rattle.text.proofs.Packs.{Packable, plain-run, length-run, same-named, reserved-named, find-named, and-both}
 
 -- the longest run of name bytes
 abbrev pub word : List ℕ → List ℕ
@@ -55,9 +56,12 @@ unfolding goodName run
 good-is [] = refl
 good-is (x ∷ t) = go (nameByte x) refl
   where
+    all : nameByte x ≡ true → eqb (run nameByte (x ∷ word t)) (suc (length (word t))) ≡ true
+    all e = eq-eqb (run nameByte (x ∷ word t)) (suc (length (word t))) (run-cons nameByte x (word t) e ∙ ap suc (run-taken nameByte t))
+
     go : (b : Bool) → nameByte x ≡ b
         → goodName (word (x ∷ t)) ≡ (letter x && leb (run nameByte (x ∷ t)) 12 && not (among (word (x ∷ t)) reserved))
-    go true e = rw (run-cons nameByte x t e, length-run t (run nameByte t) refl)
+    go true e = rw (run-cons nameByte x t e, all e, and-true (letter x), length-run t (run nameByte t) refl)
     go false e = rw (run-halt nameByte x t e, not-letter x e)
 
 pub word-packable : (t : List ℕ) → run nameByte t ≤ 12 → Packable (word t)
@@ -94,54 +98,41 @@ module _ (t : List ℕ) (some : length t ≡ 0 → ⊥) where
           let good : goodName (word t) ≡ true = good-is t ∙ rw (among-is, q, ← e, not-false a f, ← is, le-leb n 12 short) in
           rw (name-is 0 t true some good, ← is, length-run t n is, number)
 
-pub ruleset piecing = (piece-ended, piece-letter, piece-long, piece-reserved, piece-good)
+pub ruleset name-piece-returns = (piece-ended, piece-letter, piece-long, piece-reserved, piece-good)
 
--- the first n bytes of t are the name that stands there
+-- the first n bytes of t are a good name
 pub record Spelt (t : List ℕ) (n : ℕ) : Type 0 where
   pub good : goodName (take n t) ≡ true
   pub packable : Packable (take n t)
-  pub within : n ≤ length t
   pub some : 1 ≤ n
   pub few : n ≤ 12
-  pub reads : (l : ℕ) → name l t ≡ got (take n t) l (drop n t)
-
-pub data View (t : List ℕ) : Type 0 where
-  isName : (n : ℕ) → Spelt t n → View t
-  isWrong : (k : ℕ) → ((l : ℕ) → name l t ≡ wrong k l) → View t
 
 good-size : (w : List ℕ) → goodName w ≡ true → (1 ≤ length w) × (length w ≤ 12)
 unfolding goodName
 good-size [] e = absurd (false≢true e)
-good-size (x ∷ w) e = (omega arith, leb-true (length (x ∷ w)) 12 (and-both (letter x) _ (and-both (letter x && leb (length (x ∷ w)) 12) _ e .0) .1))
+good-size (x ∷ w) e = (omega arith, good-short (x ∷ w) e)
 
-pub view : (t : List ℕ) → View t
-view [] = isWrong 2 (λ l. name-ended l [] refl)
-view (x ∷ t) = go (goodName (word (x ∷ t))) refl
+pub name-step : (t : List ℕ) → Step name (Bites t (Spelt t)) t
+name-step [] = failed 2 (λ l. name-ended l [] refl)
+name-step (x ∷ t) = go (goodName (word (x ∷ t))) refl
   where
     some : length (x ∷ t) ≡ 0 → ⊥
     some h = omega arith
 
-    go : (b : Bool) → goodName (word (x ∷ t)) ≡ b → View (x ∷ t)
+    go : (b : Bool) → goodName (word (x ∷ t)) ≡ b → Step name (Bites (x ∷ t) (Spelt (x ∷ t))) (x ∷ t)
     go true e =
         let size = good-size (word (x ∷ t)) e in
         let l = length-run (x ∷ t) (run nameByte (x ∷ t)) refl in
-        isName (run nameByte (x ∷ t)) record {
-          good = e;
-          packable = record { plain = plain-run (x ∷ t); short = size .1 };
-          within = run-le nameByte (x ∷ t);
-          some = omega arith;
-          few = omega arith;
-          reads = λ l. name-is l (x ∷ t) true some e;
-        }
-    go false e = isWrong 3 (λ l. name-is l (x ∷ t) false some e)
+        let spelt : Spelt (x ∷ t) (run nameByte (x ∷ t)) =
+        record { good = e; packable = record { plain = plain-run (x ∷ t); short = size .1 }; some = omega arith; few = omega arith } in
+        took (run nameByte (x ∷ t)) (word (x ∷ t))
+        record { within = run-le nameByte (x ∷ t); also = (refl, spelt); reads = λ l. name-is l (x ∷ t) true some e }
+    go false e = failed 3 (λ l. name-is l (x ∷ t) false some e)
 
 -- a place was found
 abbrev pub isPlace : Option ℕ → Bool
 isPlace none = false
 isPlace (some i) = true
-
-pub taken-length : (t : List ℕ) (n : ℕ) → n ≤ length t → length t - length (drop n t) ≡ n
-taken-length t n h = simp length-drop (omega arith)
 
 pub among-place : (w : List ℕ) (ks : List (List ℕ)) → among w ks ≡ isPlace (find w ks)
 unfolding among find
@@ -155,98 +146,76 @@ among-place w (k ∷ ks) = go (same w k) refl (find w ks) (among-place w ks)
 
 -- what name_piece told
 module _ (p : NamePiece) (t : List ℕ) (is : p ≡ asName (name 0 t)) where
-  pub name-spelt : (v n : ℕ) → p ≡ N.Name v n → Spelt t n × (v ≡ packed (take n t))
-  name-spelt v n e = go (view t)
-    where
-      go : View t → Spelt t n × (v ≡ packed (take n t))
-      go (isName m s) =
-          let q : asName (name 0 t) ≡ N.Name (packed (take m t)) (length (take m t)) = rw (s .reads 0) in
-          let a : v ≡ packed (take m t) = cc in
-          let b : n ≡ length (take m t) = cc in
-          let z : n ≡ m = omega (arith, length-take-le m t (s .within)) in
-          rw z (s, a)
-      go (isWrong k s) =
-          let q : asName (name 0 t) ≡ N.Refused k = rw (s 0) in
-          let z : _≡_ {A = ℕ} 0 1 = cc in
-          absurd (omega arith)
+  pub name-taken : (v n : ℕ) → p ≡ N.Name v n → Took name (Bites t (Spelt t)) t n (take n t) × (v ≡ packed (take n t))
+  name-taken = Steps.name-took name (Spelt t) t p is (name-step t)
 
   pub name-wrong : (k : ℕ) → p ≡ N.Refused k → (l : ℕ) → name l t ≡ wrong k l
-  name-wrong k e l = go (view t)
-    where
-      go : View t → name l t ≡ wrong k l
-      go (isName m s) =
-          let q : asName (name 0 t) ≡ N.Name (packed (take m t)) (length (take m t)) = rw (s .reads 0) in
-          let z : _≡_ {A = ℕ} 0 1 = cc in
-          absurd (omega arith)
-      go (isWrong j s) =
-          let q : asName (name 0 t) ≡ N.Refused j = rw (s 0) in
-          let z : k ≡ j = cc in
-          rw z (s l)
+  name-wrong = Steps.name-wrong name (Spelt t) t p is (name-step t)
 
   -- the returns of due_name, known_name and new_name where no name stands
   module _ (k : ℕ) (told : p ≡ N.Refused k) where
-    pub due-wrong : (d : ℕ) → B.Refused k ≡ asBytes t (dueName (named d) 0 t)
+    pub due-name-refused : (d : ℕ) → B.Refused k ≡ asBytes t (dueName (named d) 0 t)
     unfolding dueName
-    due-wrong d = rw (name-wrong k told 0)
+    due-name-refused d = rw (name-wrong k told 0)
 
-    pub known-wrong : (vs : List ℕ) → K.Refused k ≡ asKnown t (known (map named vs) 0 t)
+    pub known-refused : (vs : List ℕ) → K.Refused k ≡ asKnown t (known (map named vs) 0 t)
     unfolding known
-    known-wrong vs = rw (name-wrong k told 0)
+    known-refused vs = rw (name-wrong k told 0)
 
-    pub new-wrong : (vs : List ℕ) → p ≡ asName (newName (map named vs) 0 t)
+    pub new-refused : (vs : List ℕ) → p ≡ asName (newName (map named vs) 0 t)
     unfolding newName
-    new-wrong vs = rw (name-wrong k told 0) told
+    new-refused vs = rw (name-wrong k told 0) told
 
   -- and where one does
   module _ (v n : ℕ) (told : p ≡ N.Name v n) where
     pub due-other : (d : ℕ) → (v ≡ d → ⊥) → B.Refused 3 ≡ asBytes t (dueName (named d) 0 t)
     unfolding dueName
     due-other d h =
-        let s = name-spelt v n told in
-        rw (s .0 .reads 0, same-named (take n t) (s .0 .packable) d, ← s .1, ne-eqb v d h)
+        let s = name-taken v n told in
+        rw (s .0 .reads 0, same-named (take n t) (s .0 .also .1 .packable) d, ← s .1, ne-eqb v d h)
 
     pub due-same : (d : ℕ) → v ≡ d → (k : ℕ) → k ≡ n → B.Read k ≡ asBytes t (dueName (named d) 0 t)
     unfolding dueName
     due-same d h k z =
-        let s = name-spelt v n told in
-        rw (s .0 .reads 0, same-named (take n t) (s .0 .packable) d, ← s .1, eq-eqb v d h) (ap (λ m. B.Read m) (z ∙ sym (taken-length t n (s .0 .within))))
+        let s = name-taken v n told in
+        rw (s .0 .reads 0, same-named (take n t) (s .0 .also .1 .packable) d, ← s .1, eq-eqb v d h) (ap (λ m. B.Read m) (z ∙ sym (taken-length t n (s .0 .within))))
 
     pub known-none : (vs : List ℕ) (f : Found) → f ≡ foundIn v vs → f ≡ F.Nothing → K.Refused 3 ≡ asKnown t (known (map named vs) 0 t)
     unfolding known
     known-none vs f q e =
-        let s = name-spelt v n told in
-        rw (s .0 .reads 0, find-named (take n t) (s .0 .packable) vs, ← s .1, ← q, e)
+        let s = name-taken v n told in
+        rw (s .0 .reads 0, find-named (take n t) (s .0 .also .1 .packable) vs, ← s .1, ← q, e)
 
     pub known-at : (vs : List ℕ) (f : Found) (i : ℕ) → f ≡ foundIn v vs → f ≡ F.At i → (j k : ℕ) → j ≡ i → k ≡ n → K.At j k ≡ asKnown t (known (map named vs) 0 t)
     unfolding known
     known-at vs f i q e j k y z =
-        let s = name-spelt v n told in
-        rw (s .0 .reads 0, find-named (take n t) (s .0 .packable) vs, ← s .1, ← q, e) (rw (y, z, taken-length t n (s .0 .within)))
+        let s = name-taken v n told in
+        rw (s .0 .reads 0, find-named (take n t) (s .0 .also .1 .packable) vs, ← s .1, ← q, e) (rw (y, z, taken-length t n (s .0 .within)))
 
     pub new-used : (l : List ℕ) (k : ℕ) (f : Found) (i : ℕ) → f ≡ foundIn v (take (k - 0) (drop 0 l)) → f ≡ F.At i
         → N.Refused 3 ≡ asName (newName (map named (take k l)) 0 t)
     unfolding newName
     new-used l k f i q e =
-        let s = name-spelt v n told in
+        let s = name-taken v n told in
         let z : k - 0 ≡ k = omega arith in
         let g : foundIn v (take k l) ≡ F.At i = rw z at (sym q ∙ e) in
-        rw (s .0 .reads 0, among-place (take n t) (map named (take k l)), find-named (take n t) (s .0 .packable) (take k l), ← s .1, g)
+        rw (s .0 .reads 0, among-place (take n t) (map named (take k l)), find-named (take n t) (s .0 .also .1 .packable) (take k l), ← s .1, g)
 
     pub new-good : (l : List ℕ) (k : ℕ) (f : Found) → f ≡ foundIn v (take (k - 0) (drop 0 l)) → f ≡ F.Nothing → (u m : ℕ) → u ≡ v → m ≡ n
         → N.Name u m ≡ asName (newName (map named (take k l)) 0 t)
     unfolding newName
     new-good l k f q e u m y x =
-        let s = name-spelt v n told in
+        let s = name-taken v n told in
         let z : k - 0 ≡ k = omega arith in
         let g : foundIn v (take k l) ≡ F.Nothing = rw z at (sym q ∙ e) in
-        rw (s .0 .reads 0, among-place (take n t) (map named (take k l)), find-named (take n t) (s .0 .packable) (take k l), ← s .1, g)
+        rw (s .0 .reads 0, among-place (take n t) (map named (take k l)), find-named (take n t) (s .0 .also .1 .packable) (take k l), ← s .1, g)
         (rw (y, x, s .1, length-take-le n t (s .0 .within)))
 
-pub ruleset dueing = (due-wrong, due-other, due-same)
+pub ruleset due-name-returns = (due-name-refused, due-other, due-same)
 
-pub ruleset knowing = (known-wrong, known-none, known-at)
+pub ruleset known-name-returns = (known-refused, known-none, known-at)
 
-pub ruleset newing = (new-wrong, new-used, new-good)
+pub ruleset new-name-returns = (new-refused, new-used, new-good)
 
 -- the returns of due_text
 pub text-ended : (t k : List ℕ) (n : ℕ) → length t ≡ 0 → B.Refused 2 ≡ asBytes t (due n k 0 t)
@@ -268,4 +237,4 @@ text-due t k n h b e q =
     let here = sym e ∙ not-false b q in
     rw (due-is 0 t k n h true here) (ap (λ m. B.Read m) (sym (taken-length t (length k) (begins-fits k t here))))
 
-pub ruleset texting = (text-ended, text-other, text-due)
+pub ruleset due-text-returns = (text-ended, text-other, text-due)

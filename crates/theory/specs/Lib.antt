@@ -1,3 +1,7 @@
+-- To be read: what document 01 demands.
+pub mod Demands
+-- Contracts that are equations:
+pub mod Determined
 -- Lists:
 pub mod Lists
 pub mod Ascending
@@ -16,3 +20,28 @@ pub mod Shelter
 pub mod Cuts
 pub mod Alike
 pub mod Listed
+-- How readers are built, and what follows of all of them: the numbers they refuse with, that they do not look at the line's number, and how far lines go:
+pub mod Built
+pub mod BuiltPapers
+pub mod Faults
+pub mod Shift
+pub mod Lines
+-- What was read: a logic of readers and papers, and what holds of names, conditions and sheets, numbers, cards and event lines:
+pub mod Readers
+pub mod Names
+pub mod Spelling
+pub mod Conditions
+pub mod Formed
+pub mod Sheets
+pub mod Edges
+pub mod Entries
+pub mod Counts
+pub mod Cards
+pub mod Papers
+-- What is written: a card is read back, so a step's result is again accepted; every card read is so written:
+pub mod Accepted
+pub mod Written
+-- A case that was taken:
+pub mod Cases
+-- What is refused, and with which number:
+pub mod Numbers

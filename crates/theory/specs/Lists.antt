@@ -7,7 +7,7 @@ use mathlib.Core.Logic.{_⊎_, inl, inr, ⊎-elim}
 use native.Mathlib.Omega.{arith}
 use native.Mathlib.Decide.{ℕ-discrete}
 use lib.Dec.{eqb}
-use lib.ListN.{length, getD}
+use lib.ListN.{length, getD, set}
 use borrow.Author.Tests.{eq-eqb, eqb-true, eqb-false}
 use Rattle.meaning.specs.Text.{In, any, keep, joined, isIn, from}
 use Rattle.meaning.specs.Graph.{without}
@@ -172,16 +172,21 @@ without-in i k (x ∷ l) m = go (eqb x k) refl m (without-in i k l)
     go false e (inr m) ih = (inr (ih m .0), ih m .1)
 
 -- no member twice
-abbrev pub Once : List ℕ → Type 0
+abbrev pub Once : {A : Type 0} → List A → Type 0
 Once [] = Unit {0}
 Once (x ∷ l) = (In x l → ⊥) × Once l
+
+-- one more that is not yet there
+pub once-more : {A : Type 0} (xs : List A) (a : A) → Once xs → (In a xs → ⊥) → Once (xs ++ (a ∷ []))
+once-more [] a d h = (λ m. m, tt)
+once-more (x ∷ xs) a d h = (λ m. ⊎-elim (d .0) (⊎-elim (λ e. h (inl (sym e))) absurd) (in-cases x xs (a ∷ []) m), once-more xs a (d .1) (λ m. h (inr m)))
 
 pub once-without : (k : ℕ) (l : List ℕ) → Once l → Once (without k l)
 unfolding without keep
 once-without k [] o = tt
 once-without k (x ∷ l) o = go (eqb x k) (once-without k l (o .1))
   where
-    go : (b : Bool) → Once (without k l) → Once (elim (not b) [ true ↦ x ∷ keep (λ j. not (eqb j k)) l | false ↦ keep (λ j. not (eqb j k)) l ])
+    go : (b : Bool) → Once (without k l) → Once {A = ℕ} (elim (not b) [ true ↦ x ∷ keep (λ j. not (eqb j k)) l | false ↦ keep (λ j. not (eqb j k)) l ])
     go true h = h
     go false h = (λ m. o .0 (without-in x k l m .0), h)
 
@@ -242,3 +247,11 @@ pub at-place : (o : List ℕ) (i : ℕ) → i < length o → In (getD o i 0) o
 at-place [] i h = absurd (omega arith)
 at-place (x ∷ o) zero h = inl refl
 at-place (x ∷ o) (suc i) h = inr (at-place o i (omega arith))
+
+-- a member of a list with one place set
+pub set-in : {A : Type 0} (xs : List A) (i : ℕ) (a x : A) → In x (set xs i a) → (x ≡ a) ⊎ In x xs
+set-in [] i a x h = absurd h
+set-in (y ∷ xs) zero a x (inl e) = inl e
+set-in (y ∷ xs) zero a x (inr h) = inr (inr h)
+set-in (y ∷ xs) (suc i) a x (inl e) = inr (inl e)
+set-in (y ∷ xs) (suc i) a x (inr h) = ⊎-elim (λ e. inl e) (λ k. inr (inr k)) (set-in xs i a x h)

@@ -1,3 +1,5 @@
+-- `text::find` answers the first place of a number in the part of the table. The loop: the answer is that of what is left, moved by what is passed.
+-- Assumes nothing.
 use borrow.Author.Needs.{needs}
 use mathlib.Core.Path.{_≡_}
 use Prim.Native.Nat.{_≤_, _-_}

@@ -1,4 +1,5 @@
-use borrow.Author.Needs.{needs}
+-- `text::is_letter` answers whether the byte is a lower-case letter: each of its two tests is one of the definition.
+-- Assumes nothing.
 use borrow.Author.Tests.{le-leb, lt-leb}
 use Rattle.text.proofs.is_letter.Statement.{statement}
 use Rattle.text.proofs.is_letter.Tie as tie

@@ -1,3 +1,5 @@
+-- `text::is_name_byte` answers whether the byte is a letter or a digit, one way after the other as the definition has them.
+-- Assumes nothing.
 use borrow.Author.Needs.{needs}
 use borrow.Author.Tests.{le-leb, lt-leb}
 use Rattle.text.proofs.is_name_byte.Statement.{statement}

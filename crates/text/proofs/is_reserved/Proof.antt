@@ -1,3 +1,5 @@
+-- `text::is_reserved` answers whether the number is that of a reserved word: each constant is the number that the definition gives a word.
+-- Assumes nothing.
 use borrow.Author.Needs.{needs}
 use Rattle.text.proofs.Packs.{reserving}
 use Rattle.text.proofs.is_reserved.Statement.{statement}

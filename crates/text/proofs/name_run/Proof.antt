@@ -1,3 +1,5 @@
+-- `text::name_run` answers the length of the longest run of name bytes. The loop: the whole run is what is passed and the run of what is left.
+-- Assumes nothing.
 use borrow.Author.Needs.{needs}
 use mathlib.Core.Path.{_≡_}
 use Prim.Native.Nat.{_≤_, _+_, _-_}

@@ -1,3 +1,5 @@
+-- `text::pack` answers the packed name. The loop: the bytes behind the cursor are packed, at most 11 of them before a turn, so that the sum fits.
+-- Assumes nothing.
 use borrow.Author.Needs.{needs}
 use mathlib.Core.Path.{_≡_}
 use Prim.Native.Nat.{_≤_}

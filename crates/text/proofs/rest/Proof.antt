@@ -1,3 +1,5 @@
+-- `text::rest` answers the bytes from the place on: the part of the slice, or nothing where the place lies behind the end.
+-- Assumes nothing.
 use borrow.Author.Needs.{needs}
 use Rattle.text.proofs.Laws.{resting}
 use Rattle.text.proofs.rest.Statement.{statement}

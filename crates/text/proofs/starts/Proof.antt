@@ -1,6 +1,8 @@
+-- `text::starts` answers whether the bytes begin with the text. The loop: they do just if what is left of both does.
+-- Assumes nothing.
 use borrow.Author.Needs.{needs}
 use mathlib.Core.Path.{_≡_}
-use Prim.Native.Nat.{_≤_, _+_, _-_}
+use Prim.Native.Nat.{_≤_, _-_}
 use lib.ListN.{length, drop}
 use Rattle.meaning.specs.Text.{begins}
 use Rattle.text.proofs.Laws.{beginning}

@@ -1,3 +1,5 @@
+-- `text::symbol_of` answers the symbol of a name byte, which is below 38: a letter by the one difference, a digit by the other.
+-- Assumes nothing.
 use mathlib.Core.Path.{refl}
 use borrow.Author.Needs.{needs}
 use Rattle.text.proofs.Packs.{symbol-high, symbol-low, symbol-from}

@@ -1,0 +1,414 @@
+// Reading a condition into its flat form: words in postfix order in a lent array.
+ghost use mathlib.Core.Path.{_≡_};
+ghost use mathlib.Core.Bool.{false};
+ghost use mathlib.Core.List.{_++_, map};
+ghost use mathlib.Core.Option.{none};
+ghost use Prim.Native.Nat.{_+_, _-_, _≤_, _<_};
+ghost use lib.ListN.{length, take, drop, replicate};
+ghost use lib.Seq.{sets};
+ghost use Rattle.meaning.specs.Text.{text, begins};
+ghost use Rattle.meaning.specs.Condition.{leavesC, leavesA, leavesI};
+ghost use Rattle.meaning.specs.ReadCondition.{operator, named as namedLeaf, readLeaf, readAnd, readCond, readItem, condition};
+ghost use Rattle.text.specs.Packed.{named};
+ghost use Rattle.text.specs.Answers.{foundIn};
+ghost use Rattle.verdict.specs.Flat.{bit, word, comparisonWord, join, wordsC, wordsA, wordsI};
+ghost use Rattle.condition.specs.Answers.{Ready, asCondition, stored};
+ghost use Rattle.condition.specs.Parts.{operatorOf, asSign, asLeaf, comparison, placeIn, leafItem, Gives, Within, further, closedBy};
+use number::NumberPiece;
+use text::Bytes;
+use text::Found;
+use text::NamePiece;
+
+// How far a condition was read: its bytes, and the words and leaves that there are behind it.
+pub struct Place {
+    pub bytes: usize,
+    pub top: usize,
+    pub leaves: usize,
+}
+
+pub enum CondRead {
+    At(Place),
+    Refused(u8),
+}
+
+// The sign of a comparison.
+enum Sign {
+    Below,
+    AtMost,
+    Equal,
+    AtLeast,
+    Above,
+}
+
+// A sign, and how many bytes it took; or the refusal's number.
+enum SignRead {
+    Sign(Sign, usize),
+    Refused(u8),
+}
+
+// A leaf: its word, and how many bytes it took; or the refusal's number.
+enum LeafRead {
+    Word(u64, usize),
+    Refused(u8),
+}
+
+// How many leaves all conditions of a sheet may have together.
+const LEAVES: usize = 512;
+
+fn bit_of(b: bool) -> u64
+    ensures { λ r. ⌜ (r ≡ bit b) × (r ≤ 1) ⌝ }
+{
+    if b { 1 } else { 0 }
+}
+
+fn word_of(kind: u64, place: u64, number: u64) -> u64
+    requires { ⌜ (kind < 8) × (place < 32) × (number < 4294967296) ⌝ }
+    ensures { λ r. ⌜ r ≡ word kind place number ⌝ }
+{
+    kind + 8 * (place + 32 * number)
+}
+
+// Five signs are two kinds of words: below 4, equal 6, and one more where the leaf is negated.
+fn comparison_word(neg: bool, field: u64, sign: Sign, number: u64) -> u64
+    requires { ⌜ (field < 32) × (number ≤ 2000000000) ⌝ }
+    ensures { λ r. ⌜ r ≡ comparisonWord neg field (operatorOf sign) number ⌝ }
+{
+    match sign {
+        Sign::Below => word_of(4 + bit_of(neg), field, number + 1),
+        Sign::AtMost => word_of(4 + bit_of(neg), field, number + 2),
+        Sign::Equal => word_of(6 + bit_of(neg), field, number + 1),
+        Sign::AtLeast => word_of(4 + bit_of(!neg), field, number + 1),
+        Sign::Above => word_of(4 + bit_of(!neg), field, number + 2),
+    }
+}
+
+// The longest sign at the start of `s`.
+fn sign_piece(s: &[u8]) -> SignRead
+    ensures { λ r. ⌜ r ≡ asSign (now (s .entry)) (operator 0 (now (s .entry))) ⌝ }
+{
+    if s.len() == 0 {
+        return SignRead::Refused(2);
+    }
+    if text::starts(s, b"<=") {
+        return SignRead::Sign(Sign::AtMost, 2);
+    }
+    if text::starts(s, b">=") {
+        return SignRead::Sign(Sign::AtLeast, 2);
+    }
+    if text::starts(s, b"<") {
+        return SignRead::Sign(Sign::Below, 1);
+    }
+    if text::starts(s, b"=") {
+        return SignRead::Sign(Sign::Equal, 1);
+    }
+    if text::starts(s, b">") {
+        return SignRead::Sign(Sign::Above, 1);
+    }
+    SignRead::Refused(5)
+}
+
+// What stands behind the name of a field that ends at `at`: a sign and a number.
+fn comparison(s: &[u8], at: usize, field: usize, neg: bool) -> LeafRead
+    requires { ⌜ (at ≤ length (now s)) × (field < 32) ⌝ }
+    ensures { λ r. ⌜ r ≡ asLeaf neg (now (s .entry)) (comparison field 0 (drop at (now (s .entry)))) ⌝ }
+{
+    let o = sign_piece(text::rest(s, at));
+    match o {
+        SignRead::Refused(k) => LeafRead::Refused(k),
+        SignRead::Sign(c, k) => {
+            let end = at + k;
+            let p = number::number_piece(text::rest(s, end));
+            match p {
+                NumberPiece::Refused(j) => LeafRead::Refused(j),
+                NumberPiece::Number(v, n) => LeafRead::Word(
+                    comparison_word(neg, field as u64, c, v),
+                    end + n,
+                ),
+            }
+        }
+    }
+}
+
+// The leaf whose name `w`, which is no status, ends at `at`.
+fn field_leaf(s: &[u8], at: usize, w: u64, fields: &[u64], leaves: usize, neg: bool) -> LeafRead
+    requires { ⌜ (at ≤ length (now s)) × (length (now fields) ≤ 16) ⌝ }
+    ensures { λ r. ⌜ r ≡ asLeaf neg (now (s .entry)) (namedLeaf leaves none (placeIn (foundIn w (now (fields .entry)))) 0 (drop at (now (s .entry)))) ⌝ }
+{
+    let f = text::find(fields, 0, fields.len(), w);
+    let Found::At(i) = f else {
+        return LeafRead::Refused(3);
+    };
+    if LEAVES <= leaves {
+        return LeafRead::Refused(6);
+    }
+    comparison(s, at, i, neg)
+}
+
+// The leaf whose name `w` ends at `at`. Whether it is one too many is told behind its name.
+fn known_leaf(
+    s: &[u8],
+    at: usize,
+    w: u64,
+    statuses: &[u64],
+    fields: &[u64],
+    leaves: usize,
+    neg: bool,
+) -> LeafRead
+    requires { ⌜ (at ≤ length (now s)) × (length (now statuses) ≤ 32) × (length (now fields) ≤ 16) ⌝ }
+    ensures { λ r. ⌜ r ≡ asLeaf neg (now (s .entry)) (namedLeaf leaves (placeIn (foundIn w (now (statuses .entry)))) (placeIn (foundIn w (now (fields .entry)))) 0 (drop at (now (s .entry)))) ⌝ }
+{
+    let x = text::find(statuses, 0, statuses.len(), w);
+    let Found::At(i) = x else {
+        return field_leaf(s, at, w, fields, leaves, neg);
+    };
+    if LEAVES <= leaves {
+        return LeafRead::Refused(6);
+    }
+    LeafRead::Word(word_of(2 + bit_of(neg), i as u64, 0), at)
+}
+
+// The leaf at the start of `s`.
+fn leaf(s: &[u8], statuses: &[u64], fields: &[u64], leaves: usize, neg: bool) -> LeafRead
+    requires { ⌜ (length (now statuses) ≤ 32) × (length (now fields) ≤ 16) ⌝ }
+    ensures { λ r. ⌜ r ≡ asLeaf neg (now (s .entry)) (readLeaf (map named (now (statuses .entry))) (map named (now (fields .entry))) leaves 0 (now (s .entry))) ⌝ }
+{
+    let p = text::name_piece(s);
+    match p {
+        NamePiece::Refused(k) => LeafRead::Refused(k),
+        NamePiece::Name(w, n) => known_leaf(s, n, w, statuses, fields, leaves, neg),
+    }
+}
+
+// The leaf at the start of `s` as an item: its word is stored.
+fn leaf_item(
+    s: &[u8],
+    statuses: &[u64],
+    fields: &[u64],
+    words: &mut [u64],
+    top: usize,
+    leaves: usize,
+    neg: bool,
+) -> CondRead
+    requires { ⌜ Ready (now statuses) (now fields) (now words) top leaves ⌝ }
+    ensures { λ r. ⌜ Gives (wordsI neg) leavesI (now (s .entry)) top leaves (leafItem (map named (now (statuses .entry))) (map named (now (fields .entry))) leaves 0 (now (s .entry))) r (now (words .entry)) (now (words .exit)) ⌝ }
+{
+    let r = leaf(s, statuses, fields, leaves, neg);
+    match r {
+        LeafRead::Refused(k) => CondRead::Refused(k),
+        LeafRead::Word(w, n) => {
+            words[top] = w;
+            CondRead::At(Place {
+                bytes: n,
+                top: top + 1,
+                leaves: leaves + 1,
+            })
+        }
+    }
+}
+
+fn and_stands(s: &[u8], at: usize) -> bool
+    ensures { λ r. ⌜ r ≡ begins (text " and ") (drop at (now (s .entry))) ⌝ }
+{
+    text::starts(text::rest(s, at), b" and ")
+}
+
+fn or_stands(s: &[u8], at: usize) -> bool
+    ensures { λ r. ⌜ r ≡ begins (text " or ") (drop at (now (s .entry))) ⌝ }
+{
+    text::starts(text::rest(s, at), b" or ")
+}
+
+// The joining word, 1 for an or, is stored where something stands before in the list. The next place for a word.
+fn join_word(words: &mut [u64], top: usize, joined: bool, or: bool) -> usize
+    requires { ⌜ top < length (now words) ⌝ }
+    ensures { λ r. ⌜ (now (words .exit) ≡ sets (now (words .entry)) top (join joined (bit or))) × (r ≡ top + length (join joined (bit or))) ⌝ }
+{
+    if joined {
+        words[top] = bit_of(or);
+        top + 1
+    } else {
+        top
+    }
+}
+
+// What was read behind the first `n` bytes of `s`, told from the start of `s`.
+fn behind(s: &[u8], n: usize, r: CondRead) -> CondRead
+    requires { ⌜ Within (now s) n r ⌝ }
+    ensures { λ u. ⌜ u ≡ further n r ⌝ }
+{
+    match r {
+        CondRead::Refused(k) => CondRead::Refused(k),
+        CondRead::At(q) => CondRead::At(Place {
+            bytes: n + q.bytes,
+            top: q.top,
+            leaves: q.leaves,
+        }),
+    }
+}
+
+// The group whose parenthesis is the first byte of `s`, where its condition was read behind that.
+fn closed(s: &[u8], r: CondRead) -> CondRead
+    requires { ⌜ Within (now s) 1 r ⌝ }
+    ensures { λ u. ⌜ u ≡ closedBy (now (s .entry)) r ⌝ }
+{
+    let CondRead::At(q) = r else {
+        return r;
+    };
+    let end = 1 + q.bytes;
+    let d = text::due_text(text::rest(s, end), b")", 5);
+    match d {
+        Bytes::Refused(k) => CondRead::Refused(k),
+        Bytes::Read(_) => CondRead::At(Place {
+            bytes: end + 1,
+            top: q.top,
+            leaves: q.leaves,
+        }),
+    }
+}
+
+// A condition: and-lists joined by ` or `, behind each of which but the first an or is stored.
+fn condition(
+    s: &[u8],
+    statuses: &[u64],
+    fields: &[u64],
+    words: &mut [u64],
+    top: usize,
+    leaves: usize,
+    nest: usize,
+    neg: bool,
+) -> CondRead
+    requires { ⌜ Ready (now statuses) (now fields) (now words) top leaves ⌝ }
+    ensures { λ r. ⌜ Gives (wordsC neg false) leavesC (now (s .entry)) top leaves (readCond (readItem (map named (now (statuses .entry))) (map named (now (fields .entry))) nest) 513 leaves 0 (now (s .entry))) r (now (words .entry)) (now (words .exit)) ⌝ }
+{
+    let mut at = 0;
+    let mut next = top;
+    let mut count = leaves;
+    let mut joined = false;
+    loop {
+        let t = text::rest(s, at);
+        let r = and_list(t, statuses, fields, words, next, count, nest, neg);
+        let CondRead::At(q) = r else {
+            return r;
+        };
+        let end = at + q.bytes;
+        next = join_word(words, q.top, joined, !neg);
+        count = q.leaves;
+        if !or_stands(s, end) {
+            return CondRead::At(Place {
+                bytes: end,
+                top: next,
+                leaves: count,
+            });
+        }
+        at = end + 4;
+        joined = true;
+    }
+}
+
+// An and-list: items joined by ` and `, likewise.
+fn and_list(
+    s: &[u8],
+    statuses: &[u64],
+    fields: &[u64],
+    words: &mut [u64],
+    top: usize,
+    leaves: usize,
+    nest: usize,
+    neg: bool,
+) -> CondRead
+    requires { ⌜ Ready (now statuses) (now fields) (now words) top leaves ⌝ }
+    ensures { λ r. ⌜ Gives (wordsA neg false) leavesA (now (s .entry)) top leaves (readAnd (readItem (map named (now (statuses .entry))) (map named (now (fields .entry))) nest) 513 leaves 0 (now (s .entry))) r (now (words .entry)) (now (words .exit)) ⌝ }
+{
+    let mut at = 0;
+    let mut next = top;
+    let mut count = leaves;
+    let mut joined = false;
+    loop {
+        let t = text::rest(s, at);
+        let r = item(t, statuses, fields, words, next, count, nest, neg);
+        let CondRead::At(q) = r else {
+            return r;
+        };
+        let end = at + q.bytes;
+        next = join_word(words, q.top, joined, neg);
+        count = q.leaves;
+        if !and_stands(s, end) {
+            return CondRead::At(Place {
+                bytes: end,
+                top: next,
+                leaves: count,
+            });
+        }
+        at = end + 5;
+        joined = true;
+    }
+}
+
+// An item: `not ` and an item, a group, or a leaf. `nest` more nots and groups may stand around each other.
+fn item(
+    s: &[u8],
+    statuses: &[u64],
+    fields: &[u64],
+    words: &mut [u64],
+    top: usize,
+    leaves: usize,
+    nest: usize,
+    neg: bool,
+) -> CondRead
+    requires { ⌜ Ready (now statuses) (now fields) (now words) top leaves ⌝ }
+    ensures { λ r. ⌜ Gives (wordsI neg) leavesI (now (s .entry)) top leaves (readItem (map named (now (statuses .entry))) (map named (now (fields .entry))) nest leaves 0 (now (s .entry))) r (now (words .entry)) (now (words .exit)) ⌝ }
+{
+    if s.len() == 0 {
+        return CondRead::Refused(2);
+    }
+    if text::starts(s, b"not ") {
+        if nest == 0 {
+            return CondRead::Refused(5);
+        }
+        let t = text::rest(s, 4);
+        let r = item(t, statuses, fields, words, top, leaves, nest - 1, !neg);
+        return behind(s, 4, r);
+    }
+    if !text::starts(s, b"(") {
+        return leaf_item(s, statuses, fields, words, top, leaves, neg);
+    }
+    if nest == 0 {
+        return CondRead::Refused(5);
+    }
+    let t = text::rest(s, 1);
+    let r = condition(t, statuses, fields, words, top, leaves, nest - 1, neg);
+    closed(s, r)
+}
+
+// The words from `top` on are cleared.
+fn clear(words: &mut [u64], top: usize)
+    requires { ⌜ top ≤ length (now words) ⌝ }
+    ensures { λ r. ⌜ now (words .exit) ≡ take top (now (words .entry)) ++ replicate (length (now (words .entry)) - top) 0 ⌝ }
+{
+    let mut i = top;
+    while i < words.len() {
+        words[i] = 0;
+        i += 1;
+    }
+}
+
+// The condition at the start of `s`, whose names are those of the tables, behind `top` words and `leaves` leaves.
+pub fn read_condition(
+    s: &[u8],
+    statuses: &[u64],
+    fields: &[u64],
+    words: &mut [u64],
+    top: usize,
+    leaves: usize,
+) -> CondRead
+    requires { ⌜ Ready (now statuses) (now fields) (now words) top leaves ⌝ }
+    ensures answer { λ r. ⌜ r ≡ asCondition (now (s .entry)) top leaves (condition (map named (now (statuses .entry))) (map named (now (fields .entry))) leaves 0 (now (s .entry))) ⌝ }
+    ensures space { λ r. ⌜ now (words .exit) ≡ stored (now (words .entry)) top (condition (map named (now (statuses .entry))) (map named (now (fields .entry))) leaves 0 (now (s .entry))) ⌝ }
+{
+    let r = condition(s, statuses, fields, words, top, leaves, 8, false);
+    let CondRead::Refused(_) = r else {
+        return r;
+    };
+    clear(words, top);
+    r
+}

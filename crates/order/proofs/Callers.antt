@@ -1,0 +1,165 @@
+-- What a caller may conclude: how the masks of a graph are built, that only the edges decide the order, and what the answer says.
+use Prim.Native.Nat.{ℕ, zero, suc, _*_, _%_, _^_, _-_, _≤_, _<_}
+use mathlib.Core.Path.{_≡_, refl, sym, _∙_, ap, ap₂, subst}
+use mathlib.Core.Bool.{Bool, true, false, _&&_, _||_, true≢false, false≢true}
+use mathlib.Core.List.{List, [], _∷_}
+use mathlib.Core.Logic.{inl, inr}
+use mathlib.Core.Option.{Option, none, some}
+use native.Mathlib.Omega.{arith}
+use native.Mathlib.Decide.{ℕ-discrete}
+use lib.Dec.{eqb, ltb}
+use lib.ListN.{length, getD, take, set, replicate}
+use lib.Seq.{take-at, getD-set-same, getD-set-other, getD-take}
+use lib.Bits.{bitOr}
+use borrow.Author.Tests.{eq-eqb, ne-eqb, lt-ltb}
+use Rattle.meaning.specs.Text.{In, any, isIn, from}
+use Rattle.meaning.specs.Graph.{Into, edge, waits, firstFree, without, then, first, orderOf, orderFor}
+use Rattle.theory.specs.Lists.{in-any, any-same, is-in, in-is, common, without-in, from-in}
+use Rattle.theory.specs.Orders.{testing}
+use Rattle.order.specs.declared.Sorting.{Sorting}
+use Rattle.order.specs.Masks.{has, members, maskInto, withBit}
+use Rattle.order.specs.Answers.{asSorting}
+use Rattle.order.proofs.Bits as Bits
+use Rattle.order.proofs.Bits.{shifted}
+use Rattle.order.proofs.Members.{same-test, member-has, has-member}
+use Rattle.order.proofs.Laws as Laws
+
+-- MASKS
+
+-- no node, one node more, and the same as the code writes it
+pub has-none : (k : ℕ) → has 0 k ≡ false
+has-none = Bits.has-none
+
+pub has-or : (m k j : ℕ) → has (bitOr m (2 ^ k)) j ≡ has m j || eqb j k
+has-or = Bits.has-or
+
+pub has-shifted : (m k j : ℕ) → k < 64 → has (bitOr m (1 * 2 ^ k % 18446744073709551616)) j ≡ has m j || eqb j k
+has-shifted m k j h = ap (λ x. has (bitOr m x) j) (shifted k h) ∙ has-or m k j
+
+pub has-with : (m k j : ℕ) → has (withBit m k) j ≡ has m j || (eqb j k && ltb k 64)
+has-with = Laws.with-has
+
+-- 64 masks as a graph: none at the start, and one edge more
+pub edge-mask : (masks : List ℕ) (p k : ℕ) → p < 64 → edge (maskInto masks) p k ≡ has (getD masks k 0) p
+unfolding edge maskInto
+edge-mask masks p k h =
+    same-test (isIn p (members (getD masks k 0))) (has (getD masks k 0) p)
+    (λ t. member-has (getD masks k 0) p (is-in p (members (getD masks k 0)) t))
+    (λ t. in-is p (members (getD masks k 0)) (has-member (getD masks k 0) p h t))
+
+pub edges-none : (n p k : ℕ) → has (getD (replicate n 0) k 0) p ≡ false
+edges-none n p k = ap (λ m. has m p) (blank n k) ∙ has-none p
+  where
+    blank : (n k : ℕ) → getD {A = ℕ} (replicate n 0) k 0 ≡ 0
+    blank zero k = refl
+    blank (suc n) zero = refl
+    blank (suc n) (suc k) = blank n k
+
+pub edges-more : (masks : List ℕ) (p k : ℕ) → p < 64 → k < length masks → (q j : ℕ)
+    → has (getD (set masks k (withBit (getD masks k 0) p)) j 0) q ≡ has (getD masks j 0) q || (eqb j k && eqb q p)
+edges-more masks p k h l q j = go (ℕ-discrete j k)
+  where
+    with-room : (a b : Bool) → a || (b && true) ≡ a || (true && b)
+    with-room true b = refl
+    with-room false true = refl
+    with-room false false = refl
+
+    as-before : (a b : Bool) → a ≡ a || (false && b)
+    as-before true b = refl
+    as-before false b = refl
+
+    go : Dec (j ≡ k) → has (getD (set masks k (withBit (getD masks k 0) p)) j 0) q ≡ has (getD masks j 0) q || (eqb j k && eqb q p)
+    go (yes e) =
+        let at : getD (set masks k (withBit (getD masks k 0) p)) k 0 ≡ withBit (getD masks k 0) p = getD-set-same masks k (withBit (getD masks k 0) p) 0 l in
+        rw (e, at, has-with (getD masks k 0) p q, lt-ltb p 64 h, eq-eqb k k refl) (with-room (has (getD masks k 0) q) (eqb q p))
+    go (no ne) =
+        rw (getD-set-other masks k j (withBit (getD masks k 0) p) 0 ne, ne-eqb j k ne) (as-before (has (getD masks j 0) q) (eqb q p))
+
+-- THE EDGES DECIDE: two graphs with the same edges between the nodes below n have the same order
+
+-- a common member, looked for from either side
+any-flip : (xs ys : List ℕ) → any (λ p. isIn p ys) xs ≡ any (λ p. isIn p xs) ys
+any-flip xs ys = same-test (any (λ p. isIn p ys) xs) (any (λ p. isIn p xs) ys) (swap xs ys) (swap ys xs)
+  where
+    swap : (xs ys : List ℕ) → any (λ p. isIn p ys) xs ≡ true → any (λ p. isIn p xs) ys ≡ true
+    swap xs ys t = let (p, m, e) = common xs ys t in in-any (λ p. isIn p xs) p ys m e
+
+module _ (n : ℕ) (into ino : Into) (alike : (p k : ℕ) → p < n → k < n → edge into p k ≡ edge ino p k) where
+  -- all of them below n
+  abbrev Below : List ℕ → Type 0
+  Below l = (k : ℕ) → In k l → k < n
+
+  waits-same : (left : List ℕ) (k : ℕ) → Below left → k < n → waits into left k ≡ waits ino left k
+  unfolding waits edge
+  waits-same left k b h =
+      any-flip (into k) left ∙ any-same (λ p. isIn p (into k)) (λ p. isIn p (ino k)) left (λ p m. alike p k (b p m) h) ∙ any-flip left (ino k)
+
+  free-same : (left ks : List ℕ) → Below left → Below ks → firstFree into left ks ≡ firstFree ino left ks
+  unfolding firstFree
+  free-same left [] b c = refl
+  free-same left (k ∷ ks) b c =
+      ap₂ (λ w f. elim w [ true ↦ f | false ↦ some k ]) (waits-same left k b (c k (inl refl))) (free-same left ks b (λ j m. c j (inr m)))
+
+  of-same : (m : ℕ) (left : List ℕ) → Below left → orderOf into m left ≡ orderOf ino m left
+  unfolding orderOf
+  of-same zero left b = refl
+  of-same (suc m) left b =
+      ap (λ f. first f (λ k. orderOf into m (without k left))) (free-same left left b b)
+      ∙ rest (firstFree ino left left) (λ k. of-same m (without k left) (λ j h. b j (without-in j k left h .0)))
+    where
+      rest : (f : Option ℕ) → ((k : ℕ) → orderOf into m (without k left) ≡ orderOf ino m (without k left))
+          → first f (λ k. orderOf into m (without k left)) ≡ first f (λ k. orderOf ino m (without k left))
+      rest none h = refl
+      rest (some k) h = ap (then k) (h k)
+
+  pub order-same : orderFor n into ≡ orderFor n ino
+  unfolding orderFor
+  order-same = of-same n (from 0 n) (λ k m. let h = from-in n 0 k m .1 in omega arith)
+
+-- so masks that have a graph's edges give its order
+pub sort-same : (masks : List ℕ) (n : ℕ) (into : Into) (r : Sorting) → n ≤ 64 → ((p k : ℕ) → p < n → k < n → has (getD masks k 0) p ≡ edge into p k)
+    → r ≡ asSorting (orderFor n (maskInto masks)) → r ≡ asSorting (orderFor n into)
+sort-same masks n into r h alike e = e ∙ ap asSorting (order-same n (maskInto masks) into (λ p k l g. edge-mask masks p k (omega arith) ∙ alike p k l g))
+
+-- THE ANSWER
+
+-- an order of m nodes is m long
+abbrev Long : ℕ → Option (List ℕ) → Type 0
+Long m none = Unit {0}
+Long m (some o) = length o ≡ m
+
+order-long : (into : Into) (m : ℕ) (left : List ℕ) → Long m (orderOf into m left)
+unfolding orderOf
+order-long into zero left = refl
+order-long into (suc m) left = go (firstFree into left left) (λ k. order-long into m (without k left))
+  where
+    more : (k : ℕ) (x : Option (List ℕ)) → Long m x → Long (suc m) (then k x)
+    more k none h = tt
+    more k (some o) h = ap suc h
+
+    go : (f : Option ℕ) → ((k : ℕ) → Long m (orderOf into m (without k left))) → Long (suc m) (first f (λ k. orderOf into m (without k left)))
+    go none h = tt
+    go (some k) h = more k (orderOf into m (without k left)) (h k)
+
+module _ (n : ℕ) (into : Into) (r : Sorting) (is : r ≡ asSorting (orderFor n into)) where
+  pub sort-none : r .found ≡ false → orderFor n into ≡ none
+  sort-none t = go (orderFor n into) (ap (λ x. x .found) (sym is) ∙ t)
+    where
+      go : (x : Option (List ℕ)) → asSorting x .found ≡ false → x ≡ none
+      go none t = refl
+      go (some o) t = absurd (true≢false t)
+
+  pub sort-some : r .found ≡ true → orderFor n into ≡ some (take n (r .order))
+  unfolding orderFor
+  sort-some t = go (orderOf into n (from 0 n)) (order-long into n (from 0 n)) (ap (λ x. x .found) (sym is) ∙ t) ∙ ap (λ x. some (take n (x .order))) (sym is)
+    where
+      go : (x : Option (List ℕ)) → Long n x → asSorting x .found ≡ true → x ≡ some (take n (asSorting x .order))
+      go none h t = absurd (false≢true t)
+      go (some o) h t = ap some (sym (take-at o (replicate (64 - length o) 0) n h))
+
+  pub sort-below : r .found ≡ true → (i : ℕ) → i < n → getD (r .order) i 0 < n
+  unfolding orderFor
+  sort-below t i h =
+      let l : length (take n (r .order)) ≡ n = subst (Long n) (sort-some t) (order-long into n (from 0 n)) in
+      let b : getD (take n (r .order)) i 0 < n = testing n into (take n (r .order)) (sort-some t) .only i (omega arith) in
+      rw (← getD-take n (r .order) i 0 h) b

@@ -1,0 +1,4 @@
+pub mod Bits
+pub mod Members
+pub mod Laws
+pub mod Callers

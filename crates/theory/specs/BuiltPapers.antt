@@ -1,0 +1,245 @@
+-- Every reader of a paper is built from the pieces: conditions, the sheet, the card and the event line.
+use Prim.Native.Nat.{ℕ, zero, suc, _+_, _-_}
+use mathlib.Core.Bool.{Bool, true, false, not, _||_, cond}
+use mathlib.Core.List.{List, [], _∷_, _++_}
+use mathlib.Core.Option.{Option, none, some}
+use lib.ListN.{length, getD}
+use lib.Dec.{ltb}
+use Rattle.meaning.specs.Text.{text, isIn, find}
+use Rattle.meaning.specs.Limits.{fieldLimit, eventLimit, statusLimit, ruleLimit, leafLimit, nestLimit}
+use Rattle.meaning.specs.Reading.{Reader}
+use Rattle.meaning.specs.Name.{Name}
+use Rattle.meaning.specs.Condition.{Item, leavesA, leavesI}
+use Rattle.meaning.specs.ReadCondition.{operator, readAnd, readCond, named, readLeaf, itemWith, readItem, condition}
+use Rattle.meaning.specs.Sheet.{Sheet, Event, Status, Rule, statuses, statusNames, eventNames, leaves}
+use Rattle.meaning.specs.ReadSheet.{section, fieldRow, carried, eventRow, status, stageRow, mileRow, signs, trigger, ruleRow, rulesOf, heads, sheet}
+use Rattle.meaning.specs.Card.{fieldEntry, marks, statusMark, ended, card, carriedBy, put, happening}
+use Rattle.theory.specs.Built.{Built, give-built, refuse-built, choose-built, bind-built, notEnded-built, paperEnd-built, stands-built, Fault, line-fault, name-fault, cond-fault, full-fault, demand-built, due-built, oneOf-built, lineEnd-built, each-built, name-built, newName-built, dueName-built, known-built, number-built, entry-built, endLine-built}
+
+-- CONDITIONS
+
+-- an operator
+operator-built : Built operator
+unfolding operator
+operator-built = bind-built notEnded-built λ _. oneOf-built _ cond-fault
+
+-- an and-list of items
+and-built : (item : ℕ → Reader Item) → ((l : ℕ) → Built (item l)) → (m l : ℕ) → Built (readAnd item m l)
+unfolding readAnd
+and-built item h zero l = refuse-built cond-fault
+and-built item h (suc m) l =
+    bind-built (h l) λ i.
+    bind-built (stands-built (text " and ")) λ more.
+    choose-built more (bind-built (and-built item h m (l + length (leavesI i))) λ a. give-built) give-built
+
+-- a condition of items
+cond-built : (item : ℕ → Reader Item) → ((l : ℕ) → Built (item l)) → (m l : ℕ) → Built (readCond item m l)
+unfolding readCond
+cond-built item h zero l = refuse-built cond-fault
+cond-built item h (suc m) l =
+    bind-built (and-built item h (suc leafLimit) l) λ a.
+    bind-built (stands-built (text " or ")) λ more.
+    choose-built more (bind-built (cond-built item h m (l + length (leavesA a))) λ c. give-built) give-built
+
+-- what a name stands for
+named-built : (l : ℕ) (x f : Option ℕ) → Built (named l x f)
+named-built l (some x) f = bind-built (demand-built (ltb l leafLimit) full-fault) λ _. give-built
+named-built l none (some f) =
+    bind-built (demand-built (ltb l leafLimit) full-fault) λ _.
+    bind-built operator-built λ o.
+    bind-built number-built λ n.
+    give-built
+named-built l none none = refuse-built name-fault
+
+module _ (sts fields : List Name) where
+  -- a leaf
+  leaf-built : (l : ℕ) → Built (readLeaf sts fields l)
+  unfolding readLeaf
+  leaf-built l = bind-built name-built λ w. named-built l (find w sts) (find w fields)
+
+  -- an item, over what stands behind `not ` and `(`
+  with-built : (negated grouped : Reader Item) (l : ℕ) → Built negated → Built grouped → Built (itemWith sts fields negated grouped l)
+  unfolding itemWith
+  with-built negated grouped l h g =
+      bind-built notEnded-built λ _.
+      bind-built (stands-built (text "not ")) λ nots.
+      choose-built nots h (bind-built (stands-built (text "(")) λ opens.
+      choose-built opens g (bind-built (leaf-built l) λ x. give-built))
+
+  -- an item of any depth
+  item-built : (d l : ℕ) → Built (readItem sts fields d l)
+  unfolding readItem
+  item-built zero l = with-built _ _ l (refuse-built cond-fault) (refuse-built cond-fault)
+  item-built (suc d) l = with-built _ _ l
+      (bind-built (item-built d l) λ i. give-built)
+      (bind-built (cond-built (readItem sts fields d) (item-built d) (suc leafLimit) l) λ c.
+      bind-built (due-built (text ")") cond-fault) λ _.
+      give-built)
+
+  -- a whole condition
+  condition-built : (l : ℕ) → Built (condition sts fields l)
+  unfolding condition
+  condition-built l = cond-built (readItem sts fields nestLimit) (item-built nestLimit) (suc leafLimit) l
+
+-- ROWS OF THE SHEET
+
+-- a section
+section-built : {A : Type 0} (key : List ℕ) (row : List A → Reader A) → ((so : List A) → Built (row so)) → (room : ℕ) (so : List A) → Built (section key row room so)
+unfolding section
+section-built key row h zero so =
+    bind-built (stands-built key) λ more.
+    choose-built more (refuse-built full-fault) give-built
+section-built key row h (suc room) so =
+    bind-built (stands-built key) λ more.
+    choose-built more (bind-built (h so) λ a. section-built key row h room (so ++ (a ∷ []))) give-built
+
+-- a field line
+field-built : (so : List Name) → Built (fieldRow so)
+unfolding fieldRow
+field-built so =
+    bind-built (newName-built so) λ n.
+    bind-built (lineEnd-built line-fault) λ _.
+    give-built
+
+-- the fields that an event carries
+carried-built : (fields : List Name) (m : ℕ) (so : List ℕ) → Built (carried fields m so)
+unfolding carried
+carried-built fields zero so = refuse-built name-fault
+carried-built fields (suc m) so =
+    bind-built (stands-built (text " ")) λ more.
+    choose-built more
+    (bind-built (known-built fields) λ f.
+    bind-built (demand-built (not (isIn f so)) name-fault) λ _.
+    carried-built fields m (so ++ (f ∷ [])))
+    give-built
+
+-- an event line of the sheet
+event-built : (fields : List Name) (so : List Event) → Built (eventRow fields so)
+unfolding eventRow
+event-built fields so =
+    bind-built (newName-built (fields ++ eventNames so)) λ n.
+    bind-built (carried-built fields (suc (length fields)) []) λ fs.
+    bind-built (lineEnd-built line-fault) λ _.
+    give-built
+
+-- a stage or mile line
+status-built : (used : List Name) (stages : List Status) → Built (status used stages)
+unfolding status
+status-built used stages =
+    bind-built (newName-built used) λ n.
+    bind-built (stands-built (text " ")) λ more.
+    bind-built (choose-built more (bind-built (known-built (statusNames stages)) λ i. give-built) give-built) λ p.
+    bind-built (lineEnd-built line-fault) λ _.
+    give-built
+
+module _ (fields events sts : List Name) where
+  -- a trigger
+  trigger-built : Built (trigger fields events sts)
+  unfolding trigger
+  trigger-built =
+      bind-built (stands-built (text "+")) λ rises.
+      choose-built rises (bind-built (known-built sts) λ x. give-built) (bind-built (stands-built (text "-")) λ falls.
+      choose-built falls (bind-built (known-built sts) λ x. give-built) (bind-built (known-built events) λ e. give-built))
+
+  -- the LF of a rule line
+  ending-fault : (asks : Bool) → Fault (cond asks 5 2)
+  ending-fault true = cond-fault
+  ending-fault false = line-fault
+
+  -- a rule line
+  rule-built : (so : List Rule) → Built (ruleRow fields events sts so)
+  unfolding ruleRow
+  rule-built so =
+      bind-built (oneOf-built signs line-fault) λ g.
+      bind-built (known-built sts) λ x.
+      bind-built (stands-built (text " on ")) λ on.
+      bind-built (choose-built on trigger-built give-built) λ t.
+      bind-built (stands-built (text " if ")) λ asks.
+      bind-built (demand-built (on || asks) line-fault) λ _.
+      bind-built (choose-built asks (bind-built (condition-built sts fields (length (leaves so))) λ c. give-built) give-built) λ c.
+      bind-built (lineEnd-built (ending-fault asks)) λ _.
+      give-built
+
+  -- the rules, with the last line
+  pub rules-built : Built (rulesOf fields events sts)
+  unfolding rulesOf
+  rules-built =
+      bind-built (section-built (text "rule=") (ruleRow fields events sts) rule-built ruleLimit []) λ rules.
+      bind-built (endLine-built (length rules)) λ _.
+      give-built
+
+-- what stands above the rules
+pub heads-built : Built heads
+unfolding heads stageRow mileRow
+heads-built =
+    bind-built (due-built (text "model=") line-fault) λ _.
+    bind-built name-built λ m.
+    bind-built (lineEnd-built line-fault) λ _.
+    bind-built (section-built (text "field=") fieldRow field-built fieldLimit []) λ fields.
+    bind-built (section-built (text "event=") (eventRow fields) (event-built fields) eventLimit []) λ events.
+    bind-built (section-built (text "stage=") (stageRow (fields ++ eventNames events)) (λ so. status-built (fields ++ eventNames events ++ statusNames so) so) statusLimit []) λ stages.
+    bind-built (section-built (text "mile=") (mileRow (fields ++ eventNames events) stages) (λ so. status-built (fields ++ eventNames events ++ statusNames stages ++ statusNames so) stages) (statusLimit - length stages) []) λ miles.
+    give-built
+
+-- the whole sheet
+pub sheet-built : Built sheet
+unfolding sheet
+sheet-built =
+    bind-built heads-built λ sh.
+    bind-built (rules-built (sh .fields) (eventNames (sh .events)) (statusNames (statuses sh))) λ rules.
+    give-built
+
+-- THE CARD AND THE EVENT LINE
+
+-- a field's line
+entry-line-built : (n : Name) → Built (fieldEntry n)
+unfolding fieldEntry
+entry-line-built n =
+    bind-built (dueName-built n) λ _.
+    bind-built (due-built (text "=") line-fault) λ _.
+    entry-built
+
+-- a status's line
+mark-line-built : (n : Name) → Built (statusMark n)
+unfolding statusMark
+mark-line-built n =
+    bind-built (dueName-built n) λ _.
+    bind-built (due-built (text "=") line-fault) λ _.
+    oneOf-built marks line-fault
+
+-- a whole line
+ended-built : {A : Type 0} {r : Reader A} → Built r → Built (ended r)
+unfolding ended
+ended-built h =
+    bind-built h λ a.
+    bind-built (lineEnd-built line-fault) λ _.
+    give-built
+
+-- the card
+pub card-built : (sh : Sheet) → Built (card sh)
+unfolding card
+card-built sh =
+    bind-built (due-built (text "case=") line-fault) λ _.
+    bind-built (ended-built (dueName-built (sh .model))) λ _.
+    bind-built (each-built (λ n. ended-built (entry-line-built n)) (sh .fields)) λ es.
+    bind-built (each-built (λ n. ended-built (mark-line-built n)) (statusNames (statuses sh))) λ ss.
+    bind-built (endLine-built (length es + length ss)) λ _.
+    give-built
+
+-- what is put into a field
+put-built : (sh : Sheet) (f : ℕ) → Built (put sh f)
+unfolding put
+put-built sh f =
+    bind-built (due-built (text " ") line-fault) λ _.
+    bind-built (entry-line-built (getD (sh .fields) f [])) λ e.
+    give-built
+
+-- the event line
+pub happening-built : (sh : Sheet) → Built (happening sh)
+unfolding happening
+happening-built sh =
+    bind-built (known-built (eventNames (sh .events))) λ i.
+    bind-built (each-built (put-built sh) (carriedBy sh i)) λ ps.
+    bind-built (lineEnd-built line-fault) λ _.
+    bind-built paperEnd-built λ _.
+    give-built

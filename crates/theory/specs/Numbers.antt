@@ -1,0 +1,132 @@
+-- The numbers of refusals: each paper has its own, a step is refused with 1 to 9 and never with MANY, an outlook with 1 to 10.
+use Prim.Native.Nat.{ℕ, _+_, _≤_}
+use mathlib.Core.Path.{_≡_, refl, ap, subst₂}
+use mathlib.Core.Bool.{Bool, true, false, cond, false≢true}
+use mathlib.Core.List.{List}
+use mathlib.Core.Option.{Option, none, some}
+use native.Mathlib.Omega.{arith}
+use lib.ListN.{length}
+use lib.Dec.{leb}
+use Rattle.meaning.specs.Refusal.{Answer, taken, refused, onTaken, LONG, ROOM, MANY}
+use Rattle.meaning.specs.Limits.{sheetBytes, cardBytes, eventBytes}
+use Rattle.meaning.specs.Reading.{Got, got, wrong, Reader, choose, answered, paper}
+use Rattle.meaning.specs.Sheet.{Sheet}
+use Rattle.meaning.specs.ReadSheet.{sheet}
+use Rattle.meaning.specs.Card.{Card, card, orphan, sheltered, readCard, happening, readEvent}
+use Rattle.meaning.specs.Dependency.{testingOrder}
+use Rattle.meaning.specs.Step.{moment}
+use Rattle.meaning.specs.Outlook.{many, patterns}
+use Rattle.meaning.specs.Doors.{accepted, readSheet, Case, readCase, next, outlook, fitting, stepAnswer, outlookAnswer}
+use Rattle.theory.specs.Built.{Built}
+use Rattle.theory.specs.Faults.{Faulty, built-faulty}
+use Rattle.theory.specs.BuiltPapers.{sheet-built, card-built, happening-built}
+
+-- whatever number and paper a refusal names satisfy P
+pub record Tells {A : Type 0} (x : Answer A) (P : ℕ → ℕ → Type 0) : Type 0 where
+  pub told : (n p l : ℕ) → x ≡ refused n p l → P n p
+
+module _ {A : Type 0} where
+  -- refused, not taken
+  abbrev isRefused : Answer A → Bool
+  isRefused (taken a) = false
+  isRefused (refused n p l) = true
+
+  -- a refusal's number
+  abbrev numberOf : Answer A → ℕ
+  numberOf (taken a) = 0
+  numberOf (refused n p l) = n
+
+  -- a refusal's paper
+  abbrev paperOf : Answer A → ℕ
+  paperOf (taken a) = 0
+  paperOf (refused n p l) = p
+
+  -- what is taken tells nothing
+  taken-tells : {P : ℕ → ℕ → Type 0} {a : A} → Tells (taken a) P
+  taken-tells = record { told = λ n p l e. absurd (false≢true (ap isRefused e)) }
+
+  -- of a refusal
+  refused-tells : {P : ℕ → ℕ → Type 0} {n p l : ℕ} → P n p → Tells {A = A} (refused n p l) P
+  refused-tells {P} h = record { told = λ n p l e. subst₂ P (ap numberOf e) (ap paperOf e) h }
+
+  -- in a weaker form
+  tells-weaker : {P Q : ℕ → ℕ → Type 0} {x : Answer A} → ((n p : ℕ) → P n p → Q n p) → Tells x P → Tells x Q
+  tells-weaker h g = record { told = λ n p l e. h n p (g .told n p l e) }
+
+-- what follows is asked where all before it was taken
+on-tells : {A B : Type 0} {P : ℕ → ℕ → Type 0} (x : Answer A) {f : A → Answer B} → Tells x P → ((a : A) → Tells (f a) P) → Tells (onTaken x f) P
+on-tells (taken a) h g = g a
+on-tells (refused n p l) h g = refused-tells (h .told n p l refl)
+
+-- a paper names itself, with LONG or the number of a fault
+paper-tells : {A : Type 0} (p limit : ℕ) {r : Reader A} (s : List ℕ) → Built r → Tells (paper p limit r s) (λ n q. (1 ≤ n) × (n ≤ 6) × (q ≡ p))
+unfolding paper
+paper-tells {A} p limit {r} s h = fits (leb (length s) limit)
+  where
+    seen : (x : Got A) → Faulty x → Tells (answered p x) (λ n q. (1 ≤ n) × (n ≤ 6) × (q ≡ p))
+    seen (got a l t) f = taken-tells
+    seen (wrong n l) f = refused-tells (omega (arith, f .0), f .1, refl)
+
+    fits : (b : Bool) → Tells (answered p (choose b r (λ l t. wrong LONG 0) 1 s)) (λ n q. (1 ≤ n) × (n ≤ 6) × (q ≡ p))
+    fits true = seen (r 1 s) (built-faulty h 1 s)
+    fits false = refused-tells (omega arith, omega arith, refl)
+
+-- the sheet: LONG, a fault or CYCLE
+pub sheet-tells : (s : List ℕ) → Tells (readSheet s) (λ n p. (1 ≤ n) × (n ≤ 7) × (p ≡ 1))
+unfolding readSheet
+sheet-tells s = on-tells (paper 1 sheetBytes sheet s) (tells-weaker (λ n p h. (h .0, omega (arith, h .1), h .2)) (paper-tells 1 sheetBytes s sheet-built)) λ sh. go sh (testingOrder sh)
+  where
+    go : (sh : Sheet) (o : Option (List ℕ)) → Tells (accepted sh o) (λ n p. (1 ≤ n) × (n ≤ 7) × (p ≡ 1))
+    go sh none = refused-tells (omega arith, omega arith, refl)
+    go sh (some o) = taken-tells
+
+-- the card: LONG, a fault or ORPHAN
+pub card-tells : (sh : Sheet) (s : List ℕ) → Tells (readCard sh s) (λ n p. (1 ≤ n) × (n ≤ 8) × (p ≡ 2))
+unfolding readCard
+card-tells sh s = on-tells (paper 2 cardBytes (card sh) s) (tells-weaker (λ n p h. (h .0, omega (arith, h .1), h .2)) (paper-tells 2 cardBytes s (card-built sh))) λ c. go c (orphan (c .statuses) 0 (sh .stages))
+  where
+    go : (c : Card) (o : Option ℕ) → Tells (sheltered sh c o) (λ n p. (1 ≤ n) × (n ≤ 8) × (p ≡ 2))
+    go c none = taken-tells
+    go c (some x) = refused-tells (omega arith, omega arith, refl)
+
+-- the event line: LONG or a fault
+pub event-tells : (sh : Sheet) (s : List ℕ) → Tells (readEvent sh s) (λ n p. (1 ≤ n) × (n ≤ 6) × (p ≡ 3))
+unfolding readEvent
+event-tells sh s = paper-tells 3 eventBytes s (happening-built sh)
+
+-- the three papers
+pub case-tells : (s c e : List ℕ) → Tells (readCase s c e) (λ n p. (1 ≤ n) × (n ≤ 8) × (1 ≤ p) × (p ≤ 3))
+unfolding readCase
+case-tells s c e =
+    on-tells (readSheet s) (tells-weaker (λ n p h. omega (arith, h .0, h .1, h .2)) (sheet-tells s)) λ a.
+    on-tells (readCard (a .sheet) c) (tells-weaker (λ n p h. omega (arith, h .0, h .1, h .2)) (card-tells (a .sheet) c)) λ k.
+    on-tells (readEvent (a .sheet) e) (tells-weaker (λ n p h. omega (arith, h .0, h .1, h .2)) (event-tells (a .sheet) e)) λ v.
+    taken-tells
+
+-- ROOM
+fitting-tells : {A : Type 0} {P : ℕ → ℕ → Type 0} (out : A → List ℕ) (room : ℕ) (a : A) → P ROOM 0 → Tells (fitting out room a) P
+unfolding fitting
+fitting-tells {A} {P} out room a h = go (leb (length (out a)) room)
+  where
+    go : (b : Bool) → Tells (cond b (taken a) (refused ROOM 0 0)) P
+    go true = taken-tells
+    go false = refused-tells h
+
+-- a step "never gives MANY"
+pub step-tells : (s c e : List ℕ) (room : ℕ) → Tells (stepAnswer s c e room) (λ n p. (1 ≤ n) × (n ≤ 9) × (p ≤ 3))
+unfolding stepAnswer
+step-tells s c e room =
+    on-tells (readCase s c e) (tells-weaker (λ n p h. omega (arith, h .0, h .1, h .3)) (case-tells s c e)) λ k.
+    fitting-tells (λ n. n .card) room (next k) (omega arith)
+
+-- an outlook may
+pub outlook-tells : (s c e : List ℕ) (room : ℕ) → Tells (outlookAnswer s c e room) (λ n p. (1 ≤ n) × (n ≤ 10) × (p ≤ 3))
+unfolding outlookAnswer outlook
+outlook-tells s c e room =
+    on-tells (readCase s c e) (tells-weaker (λ n p h. omega (arith, h .0, h .1, h .3)) (case-tells s c e)) λ k.
+    on-tells (outlook k) (go k (many (k .sheet) (moment (k .card) (k .happening)))) λ l.
+    fitting-tells (λ l. l) room l (omega arith)
+  where
+    go : (k : Case) (b : Bool) → Tells {A = List ℕ} (elim b [ true ↦ refused MANY 0 0 | false ↦ taken (patterns (k .sheet) (k .order) (moment (k .card) (k .happening))) ]) (λ n p. (1 ≤ n) × (n ≤ 10) × (p ≤ 3))
+    go k true = refused-tells (omega arith)
+    go k false = taken-tells

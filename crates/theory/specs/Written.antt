@@ -1,0 +1,123 @@
+-- Every card that is read is the text of what was read.
+use Prim.Native.Nat.{ℕ, _+_}
+use mathlib.Core.Path.{_≡_, refl, _∙_, ap}
+use mathlib.Core.List.{List, [], _∷_, _++_, append-nil}
+use mathlib.Core.Option.{Option, none, some}
+use native.Mathlib.Omega.{arith}
+use lib.ListN.{length, length-map}
+use lib.Dec.{eqb}
+use Rattle.meaning.specs.Text.{text}
+use Rattle.meaning.specs.Refusal.{taken, LINE, ORPHAN}
+use Rattle.meaning.specs.Limits.{cardBytes}
+use Rattle.meaning.specs.Reading.{Reader, each, demand, due, oneOf, lineEnd, paperEnd, paper}
+use Rattle.meaning.specs.Name.{Name, dueName}
+use Rattle.meaning.specs.Number.{Entry, middle, number, endLine}
+use Rattle.meaning.specs.Sheet.{Sheet, Status, statuses, statusNames}
+use Rattle.meaning.specs.Card.{Card, fieldEntry, statusMark, marks, ended, card, orphan, sheltered, readCard}
+use Rattle.meaning.specs.Write.{line, lines, mark, cardText}
+use Rattle.theory.specs.Readers.{Yields, got-yields, wrong-yields, bind-yields, any-yields, each-length, Holds, refused-taken, taken-holds, paper-read, on-holds}
+use Rattle.theory.specs.Spelling.{Spells, give-spells, refuse-spells, choose-spells, bind-spells, knowing-spells, behind-spells, stands-spells, due-spells, lineEnd-spells, dueName-spells}
+use Rattle.theory.specs.Formed.{Well}
+use Rattle.theory.specs.Entries.{entry-spells}
+use Rattle.theory.specs.Counts.{endLine-spells}
+
+-- THE TEXT OF EACH LINE
+
+-- a whole line
+ended-spells : {A : Type 0} {r : Reader A} {w : A → List ℕ} → Spells [] r w → Spells [] (ended r) (λ a. w a ++ text "\n")
+unfolding ended
+ended-spells h =
+    bind-spells h λ a.
+    bind-spells (lineEnd-spells LINE) λ x.
+    give-spells refl
+
+-- a field's line
+field-spells : (n : Name) → Spells [] (ended (fieldEntry n)) (λ e. line n (e .shown))
+unfolding fieldEntry line
+field-spells n = ended-spells {w = λ e. n ++ text "=" ++ e .shown} (bind-spells (dueName-spells n) λ x.
+    bind-spells (due-spells LINE (text "=")) λ y.
+    behind-spells (n ++ text "=") entry-spells)
+
+-- a mark
+marks-spells : Spells [] (oneOf LINE marks) mark
+unfolding oneOf
+marks-spells =
+    bind-spells (stands-spells (text "yes")) λ a.
+    choose-spells a (λ e. give-spells (rw e)) (λ e.
+    bind-spells (stands-spells (text "no")) λ b.
+    choose-spells b (λ f. give-spells (rw (e, f))) (λ f. refuse-spells))
+
+-- a status's line
+status-spells : (n : Name) → Spells [] (ended (statusMark n)) (λ b. line n (mark b))
+unfolding statusMark line
+status-spells n = ended-spells {w = λ b. n ++ text "=" ++ mark b} (bind-spells (dueName-spells n) λ x.
+    bind-spells (due-spells LINE (text "=")) λ y.
+    behind-spells (n ++ text "=") marks-spells)
+
+-- each line of a list
+lines-spells : {A : Type 0} (shown : A → List ℕ) (r : Name → Reader A) → ((n : Name) → Spells [] (r n) (λ v. line n (shown v))) → (ns : List Name)
+    → Spells [] (each r ns) (λ vs. lines shown ns vs)
+unfolding each lines
+lines-spells shown r h [] = give-spells refl
+lines-spells shown r h (n ∷ ns) =
+    bind-spells (h n) λ v.
+    bind-spells (lines-spells shown r h ns) λ vs.
+    give-spells refl
+
+-- THE TEXT OF A CARD
+
+-- all of it, from `case=` to `end=`
+card-spells : (sh : Sheet) → Well sh → Spells [] (card sh) (λ c. cardText sh (c .entries) (c .statuses))
+unfolding card cardText line statusNames
+card-spells sh w =
+    bind-spells (due-spells LINE (text "case=")) λ x.
+    bind-spells (ended-spells (dueName-spells (sh .model))) λ y.
+    knowing-spells (each-length (λ n. ended (fieldEntry n)) (sh .fields)) (lines-spells (λ (e : Entry). e .shown) (λ n. ended (fieldEntry n)) field-spells (sh .fields)) λ es p.
+    knowing-spells (each-length (λ n. ended (statusMark n)) (statusNames (statuses sh))) (lines-spells mark (λ n. ended (statusMark n)) status-spells (statusNames (statuses sh))) λ bs q.
+    bind-spells (endLine-spells (length es + length bs) (omega (arith, p, q, length-map (statuses sh) (λ (s : Status). s .name), w .fields-few, w .statuses-few))) λ z.
+    give-spells refl
+
+-- nothing stands behind it
+paperEnd-ends : (l : ℕ) (s : List ℕ) → Yields (paperEnd l s) (λ x t. t ≡ [])
+unfolding paperEnd
+paperEnd-ends l [] = got-yields refl
+paperEnd-ends l (x ∷ s) = wrong-yields
+
+-- the last line
+endLine-ends : (n l : ℕ) (s : List ℕ) → Yields (endLine n l s) (λ x t. t ≡ [])
+unfolding endLine
+endLine-ends n l s =
+    any-yields (due LINE (text "end=") l s) λ _ i a.
+    any-yields (number i a) λ w j b.
+    any-yields (demand LINE (eqb (w .at) (middle + n)) j b) λ _ k c.
+    any-yields (lineEnd LINE k c) λ _ m d.
+    paperEnd-ends m d
+
+-- the card
+card-ends : (sh : Sheet) (l : ℕ) (s : List ℕ) → Yields (card sh l s) (λ c t. t ≡ [])
+unfolding card
+card-ends sh l s =
+    any-yields (due LINE (text "case=") l s) λ _ i a.
+    any-yields (ended (dueName (sh .model)) i a) λ _ j b.
+    any-yields (each (λ n. ended (fieldEntry n)) (sh .fields) j b) λ es k c.
+    any-yields (each (λ n. ended (statusMark n)) (statusNames (statuses sh)) k c) λ bs m d.
+    bind-yields (endLine-ends (length es + length bs) m d) λ _ n t e.
+    got-yields e
+
+-- the paper is the text of the card taken from it
+pub card-text : (sh : Sheet) → Well sh → (s : List ℕ) (c : Card) → paper 2 cardBytes (card sh) s ≡ taken c → s ≡ cardText sh (c .entries) (c .statuses)
+card-text sh w s c e =
+    let (f, (k, t, q)) = paper-read 2 cardBytes (card sh) s c e in
+    card-spells sh w .reads 1 s .of c k t q ∙ ap (λ z. cardText sh (c .entries) (c .statuses) ++ z) (card-ends sh 1 s .of c k t q) ∙ append-nil (cardText sh (c .entries) (c .statuses))
+
+-- and so is every card that is taken
+pub readCard-text : (sh : Sheet) → Well sh → (s : List ℕ) → Holds (readCard sh s) (λ c. s ≡ cardText sh (c .entries) (c .statuses))
+unfolding readCard
+readCard-text sh w s = on-holds P P (paper 2 cardBytes (card sh) s) _ (card-text sh w s) (λ c h. go c h (orphan (c .statuses) 0 (sh .stages)))
+  where
+    P : Card → Type 0
+    P c = s ≡ cardText sh (c .entries) (c .statuses)
+
+    go : (c : Card) → P c → (x : Option ℕ) → Holds (sheltered sh c x) P
+    go c h none = taken-holds P c h
+    go c h (some x) = λ a e. absurd (refused-taken ORPHAN 2 (2 + length (sh .fields) + x) a e)
