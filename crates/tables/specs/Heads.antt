@@ -1,5 +1,6 @@
 -- The tables of a sheet above its rules: those that a sheet has, and the sheet for which any tables stand.
 use Prim.Native.Nat.{ℕ, zero, suc, _+_, _-_, _*_, _≤_, _<_}
+use mathlib.Core.Path.{_≡_}
 use mathlib.Core.List.{List, [], _∷_, _++_, map}
 use mathlib.Core.Option.{Option, none, some}
 use lib.ListN.{length, take, drop, getD, replicate}
@@ -87,3 +88,7 @@ pub record Sized (h : Heads) : Type 0 where
   pub few-carried : (e : ℕ) → getD (h .carries) e 0 ≤ 16
   pub fields-carried : (e i : ℕ) → i < getD (h .carries) e 0 → getD (h .carried) (16 * e + i) 0 < h .fields
   pub under-stage : (x : ℕ) → getD (h .under) x 0 ≤ h .stages
+
+-- names that their numbers tell
+abbrev pub Again : List Name → Type 0
+Again ns = map named (map packed ns) ≡ ns

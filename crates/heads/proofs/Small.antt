@@ -1,0 +1,80 @@
+-- Answers and bytes: the small functions.
+use Prim.Native.Nat.{ℕ, zero, suc, _+_, _-_, _<_, _≤_}
+use mathlib.Core.Path.{_≡_, refl, sym, _∙_, ap}
+use mathlib.Core.Bool.{Bool, true, false, not, cond}
+use mathlib.Core.List.{List, [], _∷_}
+use native.Mathlib.Omega.{arith}
+use native.Mathlib.Numerals.{add-one}
+use borrow.Author.Tests.{not-true, not-false, eq-eqb, ne-eqb}
+use lib.Dec.{eqb}
+use lib.ListN.{length, take, drop, getD, drop-of-length-le}
+use lib.Seq.{drop-cons, take-nil}
+use Rattle.meaning.specs.Text.{begins, any, isIn}
+use Rattle.tables.specs.declared.Heads.{Heads}
+use Rattle.tables.specs.Heads.{blank}
+use Rattle.heads.specs.declared.HeadsRead.{HeadsRead}
+use Rattle.heads.specs.declared.Fault.{Fault}
+use Rattle.heads.specs.Answers.{refusal, told}
+
+-- a refusal's tables are blank
+pub refused-is : (n l : ℕ) (h : Heads) → h ≡ blank → record { number = n; line = l; at = 0; heads = h } ≡ refusal n l
+refused-is n l h e = rw e
+
+-- by whether a fault was met
+pub told-fault : (f : Fault) (at : ℕ) (h : Heads) (r : HeadsRead) → (f .number ≡ 0 → ⊥) → r ≡ refusal (f .number) (f .line) → r ≡ told f at h
+unfolding told
+told-fault f at h r ne e = rw (ne-eqb (f .number) 0 ne) e
+
+pub told-none : (f : Fault) (at : ℕ) (h : Heads) → f .number ≡ 0 → record { number = 0; line = f .line; at = at; heads = h } ≡ told f at h
+unfolding told
+told-none f at h e = rw (eq-eqb (f .number) 0 e)
+
+-- a byte at a place
+pub stands-past : (s : List ℕ) (a b : ℕ) → length s ≤ a → false ≡ begins (b ∷ []) (drop a s)
+unfolding begins
+stands-past s a b h = sym (rw (drop-of-length-le s h))
+
+pub stands-is : (s : List ℕ) (a b : ℕ) → a < length s → eqb (getD s a 0) b ≡ begins (b ∷ []) (drop a s)
+unfolding begins
+stands-is s a b h = sym (rw (drop-cons s a 0 h) (go (getD s a 0) (drop (suc a) s) (eqb (getD s a 0) b) refl))
+  where
+    go : (x : ℕ) (t : List ℕ) (c : Bool) → eqb x b ≡ c → begins (b ∷ []) (x ∷ t) ≡ c
+    go x t true e = rw (e, begins)
+    go x t false e = rw (e, begins)
+
+-- a text at a place
+pub starts-is : (s k v : List ℕ) (a : ℕ) (b : Bool) → v ≡ drop a s → b ≡ begins k v → b ≡ begins k (drop a s)
+starts-is s k v a b e q = rw (← e) q
+
+pub carried-start : (f : ℕ) (row : List ℕ) (n : ℕ) → isIn f (take n row) ≡ isIn f (take (n - 0) (drop 0 row))
+carried-start f row n =
+    let z : n - 0 ≡ n = omega arith in
+    rw z
+
+-- a field that is carried already, looked for at the cursor i of the row
+module _ (f : ℕ) (l row : List ℕ) (from n i : ℕ) (is : row ≡ drop from l) (v : isIn f (take n row) ≡ isIn f (take (n - i) (drop i row))) where
+  pub carried-over : n ≤ i → false ≡ isIn f (take n (drop from l))
+  unfolding any
+  carried-over h =
+      let z : n - i ≡ 0 = omega arith in
+      rw (← is) (sym (v ∙ rw z))
+
+  pub carried-none : length row ≤ i → false ≡ isIn f (take n (drop from l))
+  unfolding any
+  carried-none h = rw (← is) (sym (v ∙ rw (drop-of-length-le row h, take-nil)))
+
+  module _ (more : i < n) (in-row : i < length row) where
+    left-is : take (n - i) (drop i row) ≡ getD row i 0 ∷ take (n - (i + 1)) (drop (i + 1) row)
+    left-is =
+        let m : n - i ≡ suc (n - (i + 1)) = omega arith in
+        rw (m, add-one, drop-cons row i 0)
+
+    pub carried-here : getD row i 0 ≡ f → true ≡ isIn f (take n (drop from l))
+    unfolding any
+    carried-here e = rw (← is) (sym (v ∙ rw (left-is, eq-eqb f (getD row i 0) (sym e))))
+
+    pub carried-more : (getD row i 0 ≡ f → ⊥) → isIn f (take n row) ≡ isIn f (take (n - (i + 1)) (drop (i + 1) row))
+    unfolding any
+    carried-more e = v ∙ rw (left-is, ne-eqb f (getD row i 0) (λ q. e (sym q)))
+
+pub ruleset carrying = (carried-start, carried-over, carried-none, carried-here, carried-more)

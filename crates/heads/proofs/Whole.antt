@@ -1,0 +1,23 @@
+-- The sections one after the other are what stands above the rules.
+use Prim.Native.Nat.{ℕ, _-_}
+use mathlib.Core.Path.{_≡_, refl, sym, _∙_, ap}
+use mathlib.Core.Bool.{Bool, true, false}
+use mathlib.Core.List.{List, [], _∷_, _++_}
+use lib.ListN.{length}
+use Rattle.meaning.specs.Text.{text}
+use Rattle.meaning.specs.Reading.{Got, got, wrong, Reader, after, give, due, lineEnd}
+use Rattle.meaning.specs.Name.{Name, name}
+use Rattle.meaning.specs.Sheet.{Sheet, Event, Status, eventNames}
+use Rattle.meaning.specs.ReadSheet.{heads, section, fieldRow, eventRow, stageRow, mileRow}
+use Rattle.heads.specs.declared.HeadsRead.{HeadsRead}
+use Rattle.heads.specs.Answers.{asHeadsRead}
+use Rattle.heads.specs.Parts.{sheetOf, withFields, modelPart, fieldsPart, eventsPart, stagesPart, milesPart}
+use Rattle.heads.specs.Held.{Behind, Reads}
+use Rattle.heads.proofs.Sections.{after-after}
+
+heads-parts : (l : ℕ) (s : List ℕ) → heads l s ≡ milesPart l s
+unfolding heads modelPart fieldsPart eventsPart stagesPart milesPart
+heads-parts l s = sym (simp after-after)
+
+pub heads-read : (s : List ℕ) (r : HeadsRead) → Reads (Behind true) s (milesPart 1 s) r → r ≡ asHeadsRead s (heads 1 s)
+heads-read s r h = rw (heads-parts 1 s) (h .is)

@@ -1,0 +1,2 @@
+-- Arrays that begin with a list:
+pub mod Padded

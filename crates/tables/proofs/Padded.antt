@@ -1,0 +1,66 @@
+-- Arrays that begin with a list: what a store behind the list makes of them, and how its parts are found again.
+use Prim.Native.Nat.{ℕ, suc, _+_, _-_, _<_, _≤_}
+use mathlib.Core.Path.{_≡_, refl, sym, _∙_, ap}
+use mathlib.Core.List.{List, [], _∷_, _++_, map, append-assoc, map-append}
+use native.Mathlib.Omega.{arith}
+use lib.ListN.{length, take, drop, set, replicate, length-append, length-replicate, length-map, replicate-append-replicate}
+use lib.Seq.{take-append-seam, drop-append-seam, set-append-seam, append-snoc}
+use Rattle.meaning.specs.Name.{Name}
+use Rattle.text.specs.Packed.{packed, named}
+use Rattle.tables.specs.Heads.{padded, Again}
+
+module _ {A : Type 0} (n : ℕ) (d : A) where
+  pub padded-length : (xs : List A) → length xs ≤ n → length (padded n d xs) ≡ n
+  unfolding padded
+  padded-length xs h = omega (arith, length-append xs (replicate (n - length xs) d), length-replicate (n - length xs) d)
+
+  -- one more
+  pub padded-set : (xs : List A) (a : A) → length xs < n → set (padded n d xs) (length xs) a ≡ padded n d (xs ++ (a ∷ []))
+  unfolding padded
+  padded-set xs a h =
+      let m : n - length xs ≡ suc (n - (length xs + 1)) = omega arith in
+      let k : length (xs ++ (a ∷ [])) ≡ length xs + 1 = length-append xs (a ∷ []) in
+      rw (m, k, set-append-seam, append-snoc)
+
+  -- what lies behind the list may as well be part of it
+  pub padded-more : (xs : List A) (m : ℕ) → length xs + m ≤ n → padded n d (xs ++ replicate m d) ≡ padded n d xs
+  unfolding padded
+  padded-more xs m h =
+      let k : length (xs ++ replicate m d) ≡ length xs + m = omega (arith, length-append xs (replicate m d), length-replicate m d) in
+      let z : n - length xs ≡ m + (n - (length xs + m)) = omega arith in
+      rw (k, append-assoc, replicate-append-replicate, z)
+
+  -- the list, and a part of it
+  pub padded-take : (xs : List A) → take (length xs) (padded n d xs) ≡ xs
+  unfolding padded
+  padded-take xs = take-append-seam xs _
+
+  pub padded-part : (a b c : List A) → take (length b) (drop (length a) (padded n d (a ++ b ++ c))) ≡ b
+  unfolding padded
+  padded-part a b c = rw (append-assoc (a ++ b) c, append-assoc a b, drop-append-seam) (take-append-seam b _)
+
+-- names that their numbers tell
+pub again-append : (a b : List Name) → Again a → Again b → Again (a ++ b)
+again-append a b h g = rw (map-append packed a b, map-append named, h, g)
+
+pub again-one : (w : Name) → named (packed w) ≡ w → Again (w ∷ [])
+again-one w e = rw e
+
+pub again-more : (ns : List Name) (w : Name) → Again ns → named (packed w) ≡ w → Again (ns ++ (w ∷ []))
+again-more ns w h e = again-append ns (w ∷ []) h (again-one w e)
+
+-- names as an array of their numbers
+pub names-length : (n : ℕ) (ns : List Name) → length ns ≤ n → length (padded n 0 (map packed ns)) ≡ n
+names-length n ns h = padded-length n 0 (map packed ns) (omega (arith, length-map ns packed))
+
+pub names-set : (n : ℕ) (ns : List Name) (w : Name) → length ns < n → set (padded n 0 (map packed ns)) (length ns) (packed w) ≡ padded n 0 (map packed (ns ++ (w ∷ [])))
+names-set n ns w h =
+    let k : length ns ≡ length (map packed ns) = sym (length-map ns packed) in
+    rw (k, padded-set n 0 (map packed ns) (packed w) (omega arith), map-append packed ns (w ∷ []))
+
+pub names-part : (n : ℕ) (a b c : List Name) → Again b → map named (take (length b) (drop (length a) (padded n 0 (map packed (a ++ b ++ c))))) ≡ b
+names-part n a b c h =
+    rw (map-append packed (a ++ b) c, map-append packed a b, ← length-map a packed, ← length-map b packed, padded-part n 0 (map packed a) (map packed b) (map packed c)) h
+
+pub names-all : (n : ℕ) (ns : List Name) → Again ns → map named (take (length ns) (padded n 0 (map packed ns))) ≡ ns
+names-all n ns h = rw (← length-map ns packed, padded-take n 0 (map packed ns)) h
