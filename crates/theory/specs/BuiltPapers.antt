@@ -160,11 +160,15 @@ module _ (fields events sts : List Name) where
       bind-built (lineEnd-built (ending-fault asks)) λ _.
       give-built
 
+  -- the lines of the rules
+  pub rows-built : Built (section (text "rule=") (ruleRow fields events sts) ruleLimit [])
+  rows-built = section-built (text "rule=") (ruleRow fields events sts) rule-built ruleLimit []
+
   -- the rules, with the last line
   pub rules-built : Built (rulesOf fields events sts)
   unfolding rulesOf
   rules-built =
-      bind-built (section-built (text "rule=") (ruleRow fields events sts) rule-built ruleLimit []) λ rules.
+      bind-built rows-built λ rules.
       bind-built (endLine-built (length rules)) λ _.
       give-built
 

@@ -1,0 +1,246 @@
+-- Laws of the scan over the rules' lines: what is known at each turn, and how it ends.
+use Prim.Native.Nat.{ℕ, suc, _+_, _-_, _*_, _^_, _≤_, _<_}
+use mathlib.Core.Path.{_≡_, refl, sym, _∙_, ap}
+use mathlib.Core.Bool.{Bool, true, false, not}
+use mathlib.Core.List.{List, [], _∷_, _++_, map}
+use native.Mathlib.Omega.{arith}
+use borrow.Author.Tests.{not-true, not-false}
+use native.Mathlib.Nat.{add-zero, zero-add, add-assoc}
+use lib.ListN.{length, take, drop, set, length-append, length-drop, length-replicate}
+use lib.Seq.{drop-drop, sets, length-sets}
+use mir.Val.{Fits}
+use mir.Syntax.{w64}
+use Rattle.meaning.specs.Text.{text, begins, joined}
+use Rattle.meaning.specs.Reading.{Got, got, wrong, Reader}
+use Rattle.meaning.specs.Sheet as M
+use Rattle.meaning.specs.Sheet.{leavesOf, leaves}
+use Rattle.meaning.specs.ReadSheet.{section, ruleRow}
+use Rattle.text.specs.Packed.{named}
+use Rattle.text.proofs.Callers.{begins-fits}
+use Rattle.tables.specs.Heads.{padded}
+use Rattle.condition.proofs.Kept.{sets-append}
+use Rattle.rules.specs.declared.Rule.{Rule}
+use Rattle.rules.specs.declared.Rules.{Rules}
+use Rattle.rules.specs.declared.Row.{Row}
+use Rattle.rules.specs.declared.RowRead.{RowRead}
+use Rattle.rules.specs.declared.RowRead.the-variants as R
+use Rattle.rules.specs.declared.RowsRead.{RowsRead}
+use Rattle.rules.specs.Answers.{wordsOf, asRule, asRows, allWords, noRule, asRules}
+use Rattle.rules.specs.Parts.{Room, row, rowAt, asRow, Stored, AllRead, Stopped, RowsAs}
+use Rattle.rules.proofs.Answered.{Answered, found, faulty, answered-line, behind}
+use Rattle.rules.proofs.Rows.{FewRule, row-is, lined-row}
+use Rattle.rules.proofs.Sections.{section-over, section-full, section-wrong, section-row, padded-row, joined-more}
+
+-- A RULE MORE
+abbrev ws : M.Rule → List ℕ
+ws r = wordsOf (r .condition)
+
+words-more : (so : List M.Rule) (r : M.Rule) → allWords (so ++ (r ∷ [])) ≡ allWords so ++ ws r
+unfolding allWords
+words-more so r = joined-more ws so r
+
+leaves-more : (so : List M.Rule) (r : M.Rule) → leaves (so ++ (r ∷ [])) ≡ leaves so ++ leavesOf (r .condition)
+unfolding leaves
+leaves-more so r = joined-more (λ r. leavesOf (r .condition)) so r
+
+count-more : (so : List M.Rule) (r : M.Rule) → length (so ++ (r ∷ [])) ≡ suc (length so)
+count-more so r = rw length-append (omega arith)
+
+rows-count : (top : ℕ) (so : List M.Rule) → length (asRows top so) ≡ length so
+unfolding asRows
+rows-count top [] = refl
+rows-count top (r ∷ so) = ap suc (rows-count (top + length (ws r)) so)
+
+rows-more : (top : ℕ) (so : List M.Rule) (r : M.Rule) → asRows top (so ++ (r ∷ [])) ≡ asRows top so ++ (asRule (top + length (allWords so)) r ∷ [])
+unfolding asRows allWords joined
+rows-more top [] r = rw add-zero
+rows-more top (x ∷ so) r =
+    let z : top + length (ws x) + length (allWords so) ≡ top + length (ws x ++ allWords so) = rw length-append (omega arith) in
+    rw ((rows-more (top + length (ws x)) so r), z)
+
+-- the table, with the next row stored
+rules-more : (so : List M.Rule) (r : M.Rule) → length so < 128
+    → _≡_ {A = Rules} (record { rows = set (asRules so .rows) (length so) (asRule (length (allWords so)) r); count = suc (length so); top = length (allWords so) + length (ws r); leaves = length (leaves so) + length (leavesOf (r .condition)) })
+    (asRules (so ++ (r ∷ [])))
+unfolding asRules
+rules-more so r h =
+    let a : set (padded 128 noRule (asRows 0 so)) (length so) (asRule (length (allWords so)) r) ≡ padded 128 noRule (asRows 0 (so ++ (r ∷ [])))
+    = rw (rows-more 0 so r, ← rows-count 0 so, zero-add) (padded-row 128 noRule (asRule (length (allWords so)) r) (asRows 0 so) (rw (rows-count 0 so) h)) in
+    let b : suc (length so) ≡ length (so ++ (r ∷ [])) = sym (count-more so r) in
+    let c : length (allWords so) + length (ws r) ≡ length (allWords (so ++ (r ∷ []))) = rw (words-more so r) (sym (length-append (allWords so) (ws r))) in
+    let d : length (leaves so) + length (leavesOf (r .condition)) ≡ length (leaves (so ++ (r ∷ []))) = rw (leaves-more so r) (sym (length-append (leaves so) (leavesOf (r .condition)))) in
+    rw (a, b, c, d)
+
+module _ (fs es ss s was : List ℕ) where
+  abbrev lines : ℕ → List M.Rule → ℕ → List ℕ → Got (List M.Rule)
+  lines room so l t = section (text "rule=") (ruleRow (map named fs) (map named es) (map named ss)) room so l t
+
+  -- AT EACH TURN: the rules so far are in the table, their words in the lent space, and the rest of the section begins at `at`
+  pub record Going (at : ℕ) (rules : Rules) (now : List ℕ) : Type 0 where
+    pub so : List M.Rule
+    pub within : at ≤ length s
+    pub room : length so ≤ 128
+    pub table : rules ≡ asRules so
+    pub space : now ≡ sets was 0 (allWords so)
+    pub few : length (leaves so) ≤ 512
+    pub small : length (allWords so) ≤ 2 * length (leaves so)
+    pub same : lines 128 [] 0 s ≡ lines (128 - length so) so (length so) (drop at s)
+
+  pub going-start : (rules : Rules) → rules ≡ asRules [] → Going 0 rules was
+  unfolding allWords leaves joined
+  going-start rules e = record { so = []; within = omega arith; room = omega arith; table = e; space = refl; few = omega arith; small = omega arith; same = refl }
+
+  module _ (at : ℕ) (rules : Rules) (now : List ℕ) (g : Going at rules now) where
+    counted : rules .count ≡ length (g .so)
+    unfolding asRules
+    counted = ap (λ (r : Rules). r .count) (g .table)
+
+    topped : rules .top ≡ length (allWords (g .so))
+    unfolding asRules
+    topped = ap (λ (r : Rules). r .top) (g .table)
+
+    leafed : rules .leaves ≡ length (leaves (g .so))
+    unfolding asRules
+    leafed = ap (λ (r : Rules). r .leaves) (g .table)
+
+    pub going-length : length now ≡ length was
+    going-length = ap length (g .space) ∙ length-sets was 0 (allWords (g .so))
+
+    pub going-kept : (now′ : List ℕ) → length now′ ≡ length now → length now′ ≡ length was
+    going-kept now′ e = e ∙ going-length
+
+    pub going-room : Room fs es ss was 0 0 → (top leaves : ℕ) → top ≡ rules .top → leaves ≡ rules .leaves → Room fs es ss now top leaves
+    going-room r top leaves e f = record {
+      few-fields = r .few-fields;
+      few-events = r .few-events;
+      few-statuses = r .few-statuses;
+      few-leaves = omega (arith, leafed, g .few);
+      few-words = omega (arith, topped, leafed, g .small);
+      room = omega (arith, going-length, r .room);
+    }
+
+    pub going-rows : length (rules .rows) ≡ 128
+    unfolding asRules padded
+    going-rows =
+        ap (λ (r : Rules). length (r .rows)) (g .table)
+        ∙ rw (length-append, length-replicate, rows-count) (omega (arith, g .room))
+
+    module _ (v : List ℕ) (here : v ≡ drop at s) (b : Bool) (is : b ≡ begins (text "rule=") v) where
+      pub rows-over : not b ≡ true → RowsAs s was now (record { number = 0; at = at; rules = rules }) (lines 128 [] 0 s)
+      rows-over e =
+          let q : begins (text "rule=") (drop at s) ≡ false = rw here at (sym is ∙ not-true b e) in
+          rw (g .same, section-over (text "rule=") (ruleRow (map named fs) (map named es) (map named ss)) (g .so) (length (g .so)) (drop at s) (128 - length (g .so)) q)
+          (record { number = refl; rules = g .table; rest = refl; line = refl; few = g .room; space = g .space })
+
+      module _ (e : not b ≡ false) where
+        key : begins (text "rule=") (drop at s) ≡ true
+        key = rw here at (sym is ∙ not-false b e)
+
+        pub rows-key : at + 5 ≤ length s
+        rows-key = behind s 5 at (g .within) (begins-fits (text "rule=") (drop at s) key)
+
+        pub rows-full : 128 ≤ rules .count → RowsAs s was now (record { number = 6; at = at; rules = rules }) (lines 128 [] 0 s)
+        rows-full h =
+            let z : 128 - length (g .so) ≡ 0 = omega (arith, counted) in
+            rw (g .same, z, section-full (text "rule=") (ruleRow (map named fs) (map named es) (map named ss)) (g .so) (length (g .so)) (drop at s) key)
+            (record { number = refl; line = counted; kept = going-length })
+
+        module _ (less : rules .count < 128) (x : ℕ) (next : x ≡ at + 5) (u : List ℕ) (from : u ≡ drop x s) (r : RowRead)
+            (told : r ≡ asRow u (rules .top) (rules .leaves) (row (map named fs) (map named es) (map named ss) (rules .leaves) 0 u)) (now′ : List ℕ)
+            (store : Stored ws now now′ (rules .top) (row (map named fs) (map named es) (map named ss) (rules .leaves) 0 u)) where
+          few-leaves : rules .leaves ≤ 512
+          few-leaves = omega (arith, leafed, g .few)
+
+          answer : Answered (FewRule (rules .leaves)) suc (rowAt (rules .top) (rules .leaves)) R.Refused (row (map named fs) (map named es) (map named ss) (rules .leaves)) u r
+          answer = answered-line (FewRule (rules .leaves)) (rowAt (rules .top) (rules .leaves)) R.Refused (row (map named fs) (map named es) (map named ss) (rules .leaves)) u
+              (lined-row fs es ss (rules .leaves) few-leaves u) r told
+
+          -- the meaning's reader of this row
+          read-row : (l : ℕ) (q : Got M.Rule) → row (map named fs) (map named es) (map named ss) (rules .leaves) l u ≡ q
+              → ruleRow (map named fs) (map named es) (map named ss) (g .so) l (drop 5 (drop at s)) ≡ q
+          read-row l q h =
+              let d : drop 5 (drop at s) ≡ u = rw (drop-drop 5 at s, from, next) in
+              rw d (row-is (map named fs) (map named es) (map named ss) (g .so) l u ∙ rw (← leafed) h)
+
+          pub rows-wrong : (k : ℕ) → r ≡ R.Refused k → (v : RowsRead) → v .number ≡ k → v .rules .count ≡ rules .count → RowsAs s was now′ v (lines 128 [] 0 s)
+          rows-wrong k f v i c = go answer
+            where
+              go : Answered (FewRule (rules .leaves)) suc (rowAt (rules .top) (rules .leaves)) R.Refused (row (map named fs) (map named es) (map named ss) (rules .leaves)) u r
+                  → RowsAs s was now′ v (lines 128 [] 0 s)
+              go (found a n h m reads z) =
+                  let y : _≡_ {A = ℕ} 0 1 = cc in
+                  absurd (omega arith)
+              go (faulty j reads z) =
+                  let y : k ≡ j = cc in
+                  let w : length now′ ≡ length now = rw (reads 0) at store in
+                  rw (g .same, section-wrong (text "rule=") (ruleRow (map named fs) (map named es) (map named ss)) (g .so) (length (g .so)) (drop at s) key (128 - length (g .so)) (omega (arith, counted)) j (length (g .so)) (read-row (length (g .so)) _ (reads (length (g .so)))))
+                  (record { number = i ∙ y; line = c ∙ counted; kept = w ∙ going-length })
+
+          pub rows-row : (a : Row) → r ≡ R.At a → (c at′ : ℕ) → c ≡ rules .count + 1 → at′ ≡ x + a .bytes → (rules′ : Rules)
+              → rules′ ≡ record { rows = set (rules .rows) (rules .count) (a .rule); count = c; top = a .top; leaves = a .leaves } → Going at′ rules′ now′
+          rows-row a f c at′ i j rules′ t = go answer
+            where
+              more : (xs ys : List ℕ) → sets (sets was 0 xs) (length xs) ys ≡ sets was 0 (xs ++ ys)
+              more xs ys = rw (zero-add (length xs)) at (sets-append xs ys was 0)
+
+              go : Answered (FewRule (rules .leaves)) suc (rowAt (rules .top) (rules .leaves)) R.Refused (row (map named fs) (map named es) (map named ss) (rules .leaves)) u r → Going at′ rules′ now′
+              go (found y n h m reads z) =
+                  let q : a ≡ record { rule = asRule (rules .top) y; bytes = n; top = rules .top + length (ws y); leaves = rules .leaves + length (leavesOf (y .condition)) } = cc in
+                  let a1 : a .rule ≡ asRule (length (allWords (g .so))) y = ap (λ (a : Row). a .rule) q ∙ ap (λ (n : ℕ). asRule n y) topped in
+                  let a2 : a .bytes ≡ n = ap (λ (a : Row). a .bytes) q in
+                  let a3 : a .top ≡ length (allWords (g .so)) + length (ws y) = ap (λ (a : Row). a .top) q ∙ ap (λ (n : ℕ). n + length (ws y)) topped in
+                  let a4 : a .leaves ≡ length (leaves (g .so)) + length (leavesOf (y .condition)) = ap (λ (a : Row). a .leaves) q ∙ ap (λ (n : ℕ). n + length (leavesOf (y .condition))) leafed in
+                  let r1 : rules .rows ≡ asRules (g .so) .rows = ap (λ (r : Rules). r .rows) (g .table) in
+                  let c1 : c ≡ suc (length (g .so)) = omega (arith, counted) in
+                  let d : u ≡ drop (at + 5) s = rw (from, next) in
+                  let o : at + 5 + n ≤ length s = behind s n (at + 5) rows-key (rw d at m) in
+                  let w : now′ ≡ sets now (rules .top) (ws y) = rw (reads 0) at store in
+                  let full : _≡_ {A = Rules} (record { rows = set (rules .rows) (rules .count) (a .rule); count = c; top = a .top; leaves = a .leaves })
+                  (record { rows = set (asRules (g .so) .rows) (length (g .so)) (asRule (length (allWords (g .so))) y); count = suc (length (g .so)); top = length (allWords (g .so)) + length (ws y); leaves = length (leaves (g .so)) + length (leavesOf (y .condition)) })
+                  = cc counted in
+                  let further : lines 128 [] 0 s ≡ lines (128 - length (g .so) - 1) (g .so ++ (y ∷ [])) (suc (length (g .so))) (drop n u)
+                  = g .same ∙ section-row (text "rule=") (ruleRow (map named fs) (map named es) (map named ss)) (g .so) (length (g .so)) (drop at s) key (128 - length (g .so)) (omega (arith, counted)) y
+                  (suc (length (g .so))) (drop n u) (read-row (length (g .so)) _ (reads (length (g .so)))) in
+                  let e1 : 128 - length (g .so) - 1 ≡ 128 - suc (length (g .so)) = omega arith in
+                  let e2 : drop n u ≡ drop at′ s = rw (d, drop-drop n (at + 5) s, j, a2, next) in
+                  record {
+                    so = g .so ++ (y ∷ []);
+                    within = omega arith;
+                    room = rw (count-more (g .so) y) (omega (arith, counted));
+                    table = t ∙ full ∙ rules-more (g .so) y (omega (arith, counted));
+                    space = w ∙ ap (λ (n : ℕ). sets now n (ws y)) topped ∙ ap (λ (l : List ℕ). sets l (length (allWords (g .so))) (ws y)) (g .space) ∙ rw (words-more (g .so) y) (more (allWords (g .so)) (ws y));
+                    few = rw (leaves-more (g .so) y, length-append) (omega (arith, leafed, h .0));
+                    small = rw (words-more (g .so) y, leaves-more (g .so) y, length-append, length-append (leaves (g .so))) (omega (arith, g .small, h .1));
+                    same = further ∙ rw (count-more (g .so) y, e1, e2);
+                  }
+              go (faulty k reads z) =
+                  let y : _≡_ {A = ℕ} 0 1 = cc in
+                  absurd (omega arith)
+
+          pub rows-last : (a : Row) → r ≡ R.At a → at + 5 + a .bytes ≤ length s
+          rows-last a f = go answer
+            where
+              go : Answered (FewRule (rules .leaves)) suc (rowAt (rules .top) (rules .leaves)) R.Refused (row (map named fs) (map named es) (map named ss) (rules .leaves)) u r → at + 5 + a .bytes ≤ length s
+              go (found y n h m reads z) =
+                  let q : a ≡ record { rule = asRule (rules .top) y; bytes = n; top = rules .top + length (ws y); leaves = rules .leaves + length (leavesOf (y .condition)) } = cc in
+                  let w : a .bytes ≡ n = ap (λ (a : Row). a .bytes) q in
+                  let d : u ≡ drop (at + 5) s = rw (from, next) in
+                  let o : at + 5 + n ≤ length s = behind s n (at + 5) rows-key (rw d at m) in
+                  omega arith
+              go (faulty k reads z) =
+                  let y : _≡_ {A = ℕ} 0 1 = cc in
+                  absurd (omega arith)
+
+          pub rows-fits : length s < 2 ^ 64 → (a : Row) → r ≡ R.At a → (k : ℕ) → k ≡ x + a .bytes → Fits w64 k
+          rows-fits big a f k w = omega (arith, rows-last a f)
+
+          pub rows-less : (a : Row) → r ≡ R.At a → (k : ℕ) → k ≡ x + a .bytes → length s - k < length s - at
+          rows-less a f k w = omega (arith, rows-last a f)
+
+        pub rows-next : length s < 2 ^ 64 → (k : ℕ) → k ≡ at + 5 → Fits w64 k
+        rows-next big k w = omega (arith, rows-key)
+
+    pub rows-place : rules .count < 128 → rules .count < length (rules .rows)
+    rows-place h = omega (arith, going-rows)
+
+pub ruleset scanning = (going-start, going-length, going-kept, going-room, rows-over, rows-full, rows-wrong, rows-row, rows-fits, rows-less, rows-next, rows-place)

@@ -1,0 +1,3 @@
+-- What the code answers for what the meaning reads:
+pub mod Answers
+pub mod Parts
