@@ -13,3 +13,4 @@ pub mod Status
 pub mod Statuses
 -- All sections together:
 pub mod Whole
+pub mod Callers

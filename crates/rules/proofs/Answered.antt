@@ -1,13 +1,13 @@
 -- What an answer of the code tells of the reader that it stands for, on whatever line it is read.
 use Prim.Native.Nat.{ℕ, suc, _+_, _-_, _≤_}
-use mathlib.Core.Path.{_≡_, refl, sym, _∙_}
+use mathlib.Core.Path.{_≡_, refl, _∙_}
 use mathlib.Core.Bool.{Bool, true, false}
 use mathlib.Core.List.{List, [], _∷_}
 use native.Mathlib.Omega.{arith}
 use lib.ListN.{length, drop, length-drop}
 use lib.Seq.{drop-drop}
 use Rattle.meaning.specs.Text.{text, begins}
-use Rattle.meaning.specs.Reading.{Got, got, wrong, Reader, _>>=_, _>>_, give, lineEnd}
+use Rattle.meaning.specs.Reading.{got, wrong, Reader, _>>=_, _>>_, give, lineEnd}
 use Rattle.text.proofs.Callers.{begins-fits, line-end-ended, line-end-here, line-end-not}
 use Rattle.condition.proofs.Told.{Told}
 use Rattle.condition.proofs.Kept.{took}

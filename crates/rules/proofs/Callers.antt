@@ -1,7 +1,7 @@
 -- For callers: what the answer for the rules tells of the meaning, at every line and for every text.
-use Prim.Native.Nat.{ℕ, suc, _+_, _≤_}
-use mathlib.Core.Path.{_≡_, refl, sym, _∙_, ap}
-use mathlib.Core.List.{List, [], _∷_}
+use Prim.Native.Nat.{ℕ, _+_, _≤_}
+use mathlib.Core.Path.{_≡_, refl, _∙_, ap}
+use mathlib.Core.List.{List, []}
 use native.Mathlib.Omega.{arith}
 use lib.ListN.{length}
 use lib.Seq.{sets}
@@ -13,8 +13,8 @@ use Rattle.meaning.specs.Number.{endLine}
 use Rattle.meaning.specs.Sheet as M
 use Rattle.meaning.specs.ReadSheet.{section, ruleRow, rulesOf}
 use Rattle.theory.specs.BuiltPapers.{rules-built}
-use Rattle.theory.specs.Faults.{Faulty, built-faulty}
-use Rattle.theory.specs.Shift.{shifted, built-shifts}
+use Rattle.theory.specs.Faults.{built-faulty}
+use Rattle.theory.specs.Shift.{built-shifts}
 use Rattle.number.specs.Answers.{asEnd}
 use Rattle.number.specs.declared.End.{End}
 use Rattle.number.specs.declared.End.the-variants as D

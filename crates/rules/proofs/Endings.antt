@@ -1,7 +1,7 @@
 -- Laws of the end of a rule's line: its condition, if it has one, and the LF.
 use Prim.Native.Nat.{ℕ, suc, _+_, _-_, _*_, _^_, _≤_, _<_}
 use mathlib.Core.Path.{_≡_, refl, sym, _∙_, ap}
-use mathlib.Core.Bool.{Bool, true, false, not, _||_, cond}
+use mathlib.Core.Bool.{Bool, true, false, not, _||_}
 use mathlib.Core.List.{List, [], _∷_, _++_, map}
 use mathlib.Core.Option.{Option, none, some}
 use native.Mathlib.Omega.{arith}
@@ -9,11 +9,10 @@ use borrow.Author.Tests.{not-true, not-false}
 use lib.ListN.{length, take, drop, replicate, length-drop, length-append, length-replicate}
 use lib.Seq.{drop-drop, sets, length-sets, length-take-le}
 use mir.Val.{Fits}
-use mir.Syntax.{w16, w64}
+use mir.Syntax.{w64}
 use Rattle.meaning.specs.Text.{text, begins}
-use Rattle.meaning.specs.Reading.{Got, got, wrong, Reader, after, _>>=_, give, demand, choose, stands, lineEnd, due, notEnded}
-use Rattle.meaning.specs.Name.{Name}
-use Rattle.meaning.specs.Condition.{Cond, leavesC}
+use Rattle.meaning.specs.Reading.{Got, got, wrong, Reader, after, give, stands, lineEnd, due}
+use Rattle.meaning.specs.Condition.{Cond}
 use Rattle.meaning.specs.Sheet.{leavesOf}
 use Rattle.meaning.specs.ReadCondition.{condition}
 use Rattle.text.specs.Packed.{named}
@@ -21,7 +20,7 @@ use Rattle.text.specs.Answers.{asBytes}
 use Rattle.text.specs.declared.Bytes.{Bytes}
 use Rattle.text.specs.declared.Bytes.the-variants as B
 use Rattle.text.proofs.Callers.{begins-fits, stands-here, stands-not, line-end-ended, line-end-here, line-end-not, line-end-wrong, line-end-got, due-fits}
-use Rattle.verdict.specs.Flat.{words, wordsC}
+use Rattle.verdict.specs.Flat.{words}
 use Rattle.condition.specs.Answers.{asCondition, stored}
 use Rattle.condition.specs.declared.Place.{Place}
 use Rattle.condition.specs.declared.CondRead.{CondRead}
@@ -140,6 +139,12 @@ module _ (fs ss s : List ℕ) (top leaves : ℕ) where
               let y : _≡_ {A = ℕ} 0 1 = cc in
               absurd (omega arith)
 
+      pub asked-fits : (u : List ℕ) → u ≡ drop (p .bytes) s → (e : Bytes) (k : ℕ) → e ≡ asBytes u (due k (text "\n") 0 u) → (n : ℕ) → e ≡ B.Read n → length s < 2 ^ 64
+          → (m : ℕ) → m ≡ p .bytes + n → Fits w64 m
+      asked-fits u at e k end n here big m w =
+          let z : p .bytes + n ≤ length s = behind s n (p .bytes) (asked-at .within) (rw at at (due-fits e k (text "\n") u end n here)) in
+          omega arith
+
       module _ (u : List ℕ) (at : u ≡ drop (p .bytes) s) (e : Bytes) (end : e ≡ asBytes u (due 5 (text "\n") 0 u)) where
         module _ (k : ℕ) (not-due : e ≡ B.Refused k) where
           unended : askedEnd (map named fs) (map named ss) leaves 0 s ≡ wrong k 0
@@ -163,11 +168,8 @@ module _ (fs ss s : List ℕ) (top leaves : ℕ) where
               let q : lineEnd 5 0 (drop (p .bytes) s) ≡ got tt 1 (drop (p .bytes + n) s) = rw (at, drop-drop n (p .bytes) s) at (line-end-got e 5 u end n here 0) in
               rw (asked-at .reads 0, q)
 
-          pub asked-length : p .bytes + n ≤ length s
+          asked-length : p .bytes + n ≤ length s
           asked-length = behind s n (p .bytes) (asked-at .within) (rw at at (due-fits e 5 (text "\n") u end n here))
-
-          pub asked-fits : length s < 2 ^ 64 → (m : ℕ) → m ≡ p .bytes + n → Fits w64 m
-          asked-fits big m w = omega (arith, asked-length)
 
           pub asked-read : (m : ℕ) → m ≡ p .bytes + n
               → C.At (record { bytes = m; top = p .top; leaves = p .leaves }) ≡ asEnding s top leaves (askedEnd (map named fs) (map named ss) leaves 0 s)

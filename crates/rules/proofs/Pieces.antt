@@ -2,15 +2,15 @@
 use Prim.Native.Nat.{ℕ, _+_, _-_, _^_, _≤_, _<_}
 use mathlib.Core.Path.{_≡_, refl, sym, _∙_, ap}
 use mathlib.Core.Bool.{Bool, true, false, not}
-use mathlib.Core.List.{List, [], _∷_, map}
+use mathlib.Core.List.{List, [], map}
 use native.Mathlib.Omega.{arith}
 use borrow.Author.Tests.{not-true, not-false}
-use lib.ListN.{length, take, drop, length-drop, length-map}
+use lib.ListN.{length, take, drop, length-map}
 use lib.Seq.{drop-drop, take-length}
 use mir.Val.{Fits}
 use mir.Syntax.{w8, w64}
 use Rattle.meaning.specs.Text.{text, begins}
-use Rattle.meaning.specs.Reading.{Got, got, wrong, Reader, after, give, choose, stands, oneOf}
+use Rattle.meaning.specs.Reading.{Got, got, wrong, after, give, choose, stands, oneOf}
 use Rattle.meaning.specs.Name.{Name, known}
 use Rattle.meaning.specs.Sheet as M
 use Rattle.meaning.specs.Sheet.{Sign, plus, minus}
@@ -31,7 +31,7 @@ use Rattle.rules.specs.declared.Start.{Start}
 use Rattle.rules.specs.declared.StartRead.{StartRead}
 use Rattle.rules.specs.declared.StartRead.the-variants as S
 use Rattle.rules.specs.Answers.{isPlus, asTrigger}
-use Rattle.rules.specs.Parts.{Begun, eventTrigger, change, begun, moved, asSign, asRead, triggerAt, asTriggerRead, startAt, asStart}
+use Rattle.rules.specs.Parts.{Begun, eventTrigger, change, begun, moved, asSign, triggerAt, asTriggerRead, startAt, asStart}
 use Rattle.rules.proofs.Answered.{Answered, found, faulty, answered, answers-found, behind}
 
 -- NAMES OF A TABLE: all of it

@@ -1,25 +1,23 @@
 -- Laws of a rule's whole line behind its key.
 use Prim.Native.Nat.{ℕ, suc, _+_, _-_, _*_, _^_, _≤_, _<_}
 use mathlib.Core.Path.{_≡_, refl, sym, _∙_, ap}
-use mathlib.Core.Bool.{Bool, true, false, _||_, cond}
-use mathlib.Core.List.{List, [], _∷_, map}
-use mathlib.Core.Option.{Option, none, some}
+use mathlib.Core.List.{List, map}
+use mathlib.Core.Option.{Option}
 use native.Mathlib.Omega.{arith}
 use lib.ListN.{length, drop}
 use lib.Seq.{drop-drop}
-use Rattle.meaning.specs.Text.{text}
-use Rattle.meaning.specs.Reading.{Got, got, wrong, Reader, after, _>>=_, give, choose, demand, stands, oneOf, lineEnd}
-use Rattle.meaning.specs.Name.{Name, known}
+use Rattle.meaning.specs.Reading.{Got, got, wrong, Reader, after, _>>=_, give}
+use Rattle.meaning.specs.Name.{Name}
 use Rattle.meaning.specs.Condition.{Cond}
 use Rattle.meaning.specs.ReadCondition.{condition}
 use Rattle.meaning.specs.Sheet as M
-use Rattle.meaning.specs.Sheet.{Sign, leavesOf, leaves}
-use Rattle.meaning.specs.ReadSheet.{signs, trigger, ruleRow}
+use Rattle.meaning.specs.Sheet.{leavesOf, leaves}
+use Rattle.meaning.specs.ReadSheet.{trigger, ruleRow}
 use Rattle.text.specs.Packed.{named}
 use Rattle.condition.specs.declared.Place.{Place}
 use Rattle.condition.specs.declared.CondRead.{CondRead}
 use Rattle.condition.specs.declared.CondRead.the-variants as C
-use Rattle.condition.proofs.Told.{Told, Any}
+use Rattle.condition.proofs.Told.{Any}
 use Rattle.rules.specs.declared.Rule.{Rule}
 use Rattle.rules.specs.declared.Start.{Start}
 use Rattle.rules.specs.declared.StartRead.{StartRead}

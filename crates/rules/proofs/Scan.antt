@@ -5,13 +5,13 @@ use mathlib.Core.Bool.{Bool, true, false, not}
 use mathlib.Core.List.{List, [], _∷_, _++_, map}
 use native.Mathlib.Omega.{arith}
 use borrow.Author.Tests.{not-true, not-false}
-use native.Mathlib.Nat.{add-zero, zero-add, add-assoc}
-use lib.ListN.{length, take, drop, set, length-append, length-drop, length-replicate}
+use native.Mathlib.Nat.{add-zero, zero-add}
+use lib.ListN.{length, drop, set, length-append}
 use lib.Seq.{drop-drop, sets, length-sets}
 use mir.Val.{Fits}
 use mir.Syntax.{w64}
 use Rattle.meaning.specs.Text.{text, begins, joined}
-use Rattle.meaning.specs.Reading.{Got, got, wrong, Reader}
+use Rattle.meaning.specs.Reading.{Got}
 use Rattle.meaning.specs.Sheet as M
 use Rattle.meaning.specs.Sheet.{leavesOf, leaves}
 use Rattle.meaning.specs.ReadSheet.{section, ruleRow}
@@ -26,7 +26,7 @@ use Rattle.rules.specs.declared.RowRead.{RowRead}
 use Rattle.rules.specs.declared.RowRead.the-variants as R
 use Rattle.rules.specs.declared.RowsRead.{RowsRead}
 use Rattle.rules.specs.Answers.{wordsOf, asRule, asRows, allWords, noRule, asRules}
-use Rattle.rules.specs.Parts.{Room, row, rowAt, asRow, Stored, AllRead, Stopped, RowsAs}
+use Rattle.rules.specs.Parts.{Room, row, rowAt, asRow, Stored, RowsAs}
 use Rattle.rules.proofs.Answered.{Answered, found, faulty, answered-line, behind}
 use Rattle.rules.proofs.Rows.{FewRule, row-is, lined-row}
 use Rattle.rules.proofs.Sections.{section-over, section-full, section-wrong, section-row, padded-row, joined-more}
@@ -119,12 +119,6 @@ module _ (fs es ss s was : List ℕ) where
       room = omega (arith, going-length, r .room);
     }
 
-    pub going-rows : length (rules .rows) ≡ 128
-    unfolding asRules padded
-    going-rows =
-        ap (λ (r : Rules). length (r .rows)) (g .table)
-        ∙ rw (length-append, length-replicate, rows-count) (omega (arith, g .room))
-
     module _ (v : List ℕ) (here : v ≡ drop at s) (b : Bool) (is : b ≡ begins (text "rule=") v) where
       pub rows-over : not b ≡ true → RowsAs s was now (record { number = 0; at = at; rules = rules }) (lines 128 [] 0 s)
       rows-over e =
@@ -210,7 +204,7 @@ module _ (fs es ss s was : List ℕ) where
                     table = t ∙ full ∙ rules-more (g .so) y (omega (arith, counted));
                     space = w ∙ ap (λ (n : ℕ). sets now n (ws y)) topped ∙ ap (λ (l : List ℕ). sets l (length (allWords (g .so))) (ws y)) (g .space) ∙ rw (words-more (g .so) y) (more (allWords (g .so)) (ws y));
                     few = rw (leaves-more (g .so) y, length-append) (omega (arith, leafed, h .0));
-                    small = rw (words-more (g .so) y, leaves-more (g .so) y, length-append, length-append (leaves (g .so))) (omega (arith, g .small, h .1));
+                    small = rw (words-more (g .so) y, leaves-more (g .so) y, length-append (allWords (g .so)), length-append (leaves (g .so))) (omega (arith, g .small, h .1));
                     same = further ∙ rw (count-more (g .so) y, e1, e2);
                   }
               go (faulty k reads z) =
@@ -239,8 +233,3 @@ module _ (fs es ss s was : List ℕ) where
 
         pub rows-next : length s < 2 ^ 64 → (k : ℕ) → k ≡ at + 5 → Fits w64 k
         rows-next big k w = omega (arith, rows-key)
-
-    pub rows-place : rules .count < 128 → rules .count < length (rules .rows)
-    rows-place h = omega (arith, going-rows)
-
-pub ruleset scanning = (going-start, going-length, going-kept, going-room, rows-over, rows-full, rows-wrong, rows-row, rows-fits, rows-less, rows-next, rows-place)

@@ -1,11 +1,10 @@
 -- Laws of a section, and of the table that its rows are stored in.
 use Prim.Native.Nat.{ℕ, zero, suc, _+_, _-_, _≤_, _<_}
-use mathlib.Core.Path.{_≡_, refl, sym, _∙_, ap}
-use mathlib.Core.Bool.{Bool, true, false, not}
+use mathlib.Core.Path.{_≡_, refl, sym, _∙_}
+use mathlib.Core.Bool.{true, false}
 use mathlib.Core.List.{List, [], _∷_, _++_, append-assoc, append-nil}
 use native.Mathlib.Omega.{arith}
-use native.Mathlib.Numerals.{add-one}
-use lib.ListN.{length, take, drop, getD, set, replicate, length-append, length-replicate, replicate-append-replicate, drop-of-length-le}
+use lib.ListN.{length, drop, getD, set, replicate, length-append, length-replicate, replicate-append-replicate}
 use lib.Seq.{set-append-seam, set-at, append-snoc, drop-cons, drop-length}
 use Rattle.meaning.specs.Text.{begins, joined}
 use Rattle.meaning.specs.Reading.{got, wrong, Reader, stands}

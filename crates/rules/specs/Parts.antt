@@ -33,6 +33,19 @@ use Rattle.rules.specs.declared.RowRead.{RowRead}
 use Rattle.rules.specs.declared.RowRead.the-variants as R
 use Rattle.rules.specs.declared.RowsRead.{RowsRead}
 
+-- what a line's reader is given: tables within their limits, and room for the words of all 512 leaves
+pub record Room (fields events statuses was : List ℕ) (top leaves : ℕ) : Type 0 where
+  pub few-fields : length fields ≤ 16
+  pub few-events : length events ≤ 16
+  pub few-statuses : length statuses ≤ 32
+  pub few-leaves : leaves ≤ 512
+  pub few-words : top ≤ 2 * leaves
+  pub room : 1024 ≤ length was
+
+-- an event as a trigger
+unfoldable pub eventTrigger : List Name → Reader M.Trigger
+eventTrigger events = known events >>= λ e. give (M.Trigger.event e)
+
 -- a rule's sign, status and trigger, and whether ` on ` stands
 pub record Begun : Type 0 where
   pub sign : Sign
@@ -92,6 +105,11 @@ asRead good bad s (wrong n l) = bad n
 abbrev pub asSign : Got Sign → SignRead
 asSign (got g l t) = G.Sign (isPlus g)
 asSign (wrong n l) = G.Refused n
+
+-- a status that rises, or one that falls
+abbrev pub moved : Bool → ℕ → Trigger
+moved true x = Rise x
+moved false x = Fall x
 
 abbrev pub triggerAt : M.Trigger → ℕ → TriggerRead
 triggerAt x n = T.At (asTrigger x) n
@@ -156,21 +174,3 @@ pub record Stopped (was is : List ℕ) (r : RowsRead) (n l : ℕ) : Type 0 where
 abbrev pub RowsAs : List ℕ → List ℕ → List ℕ → RowsRead → Got (List M.Rule) → Type 0
 RowsAs s was is r (got rs l t) = AllRead s was is r rs l t
 RowsAs s was is r (wrong n l) = Stopped was is r n l
-
--- what a line's reader is given: tables within their limits, and room for the words of all 512 leaves
-pub record Room (fields events statuses was : List ℕ) (top leaves : ℕ) : Type 0 where
-  pub few-fields : length fields ≤ 16
-  pub few-events : length events ≤ 16
-  pub few-statuses : length statuses ≤ 32
-  pub few-leaves : leaves ≤ 512
-  pub few-words : top ≤ 2 * leaves
-  pub room : 1024 ≤ length was
-
--- an event as a trigger
-unfoldable pub eventTrigger : List Name → Reader M.Trigger
-eventTrigger events = known events >>= λ e. give (M.Trigger.event e)
-
--- a status that rises, or one that falls
-abbrev pub moved : Bool → ℕ → Trigger
-moved true x = Rise x
-moved false x = Fall x

@@ -106,6 +106,7 @@ fn known_in(s: &[u8], table: &[u64]) -> Known
     text::known_name(s, table, 0, table.len())
 }
 
+// The sign at the start of `s`.
 fn sign(s: &[u8]) -> SignRead
     ensures { λ r. ⌜ r ≡ asSign (oneOf 2 signs 0 (now (s .entry))) ⌝ }
 {
@@ -326,6 +327,7 @@ fn rule_row(
     }
 }
 
+// Whether the line of a rule begins here.
 fn rule_stands(s: &[u8]) -> bool
     ensures { λ r. ⌜ r ≡ begins (text "rule=") (now (s .entry)) ⌝ }
 {
@@ -400,7 +402,7 @@ fn clear(words: &mut [u64])
     }
 }
 
-// The rules and their last line, where the tables are apart.
+// The rules and their last line, with a table for each kind of name. Where they are refused, the lent words are cleared.
 fn read_lines(
     s: &[u8],
     fields: &[u64],
@@ -454,10 +456,10 @@ pub fn read_rules(
     ensures answer { λ r. ⌜ r ≡ asRulesRead (rulesOf (map named (take fields (now (names .entry)))) (map named (take events (drop fields (now (names .entry))))) (map named (take statuses (drop (fields + events) (now (names .entry))))) 0 (now (s .entry))) ⌝ }
     ensures space { λ r. ⌜ now (words .exit) ≡ wordsSpace (now (words .entry)) (rulesOf (map named (take fields (now (names .entry)))) (map named (take events (drop fields (now (names .entry))))) (map named (take statuses (drop (fields + events) (now (names .entry))))) 0 (now (s .entry))) ⌝ }
 {
-    let first = part(names, 0, fields);
-    let second = part(names, fields, events);
-    let third = part(names, fields + events, statuses);
-    read_lines(s, first, second, third, words)
+    let field_names = part(names, 0, fields);
+    let event_names = part(names, fields, events);
+    let status_names = part(names, fields + events, statuses);
+    read_lines(s, field_names, event_names, status_names, words)
 }
 
 // The rules of a refused sheet.

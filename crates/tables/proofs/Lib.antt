@@ -1,2 +1,3 @@
--- Arrays that begin with a list:
+-- Arrays that begin with a list, and the tables of a sheet:
 pub mod Padded
+pub mod Tables

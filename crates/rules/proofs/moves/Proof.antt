@@ -6,10 +6,10 @@ use Rattle.rules.proofs.moves.Statement.{statement}
 use Rattle.rules.proofs.moves.Tie as tie
 
 returns : tie.Need-returns
-returns c = search (needs, moves-up, moves-down)
+returns c = search (needs, moves-up)
 
 returns-2 : tie.Need-returns-2
-returns-2 c = search (needs, moves-up, moves-down)
+returns-2 c = search (needs, moves-down)
 
 pub moves-spec : {M : Type 1} → statement M
 moves-spec = tie.close (tie.spec returns returns-2)

@@ -4,7 +4,7 @@ use borrow.Author.Needs.{needs}
 use Prim.Native.Nat.{_-_}
 use mathlib.Core.Path.{refl}
 use lib.ListN.{length}
-use Rattle.rules.proofs.Scan.{Going, going-start, going-length, going-kept, going-room, rows-next, rows-place, rows-fits, rows-less, rows-row, rows-over, rows-full, rows-wrong}
+use Rattle.rules.proofs.Scan.{Going, going-start, going-length, going-kept, going-room, rows-next, rows-fits, rows-less, rows-row, rows-over, rows-full, rows-wrong}
 use Rattle.rules.proofs.read_rows.Statement.{statement}
 use Rattle.rules.proofs.read_rows.Tie as tie
 
@@ -45,7 +45,7 @@ mul-rule : tie.Need-mul-rule Inv-scan μ-scan
 mul-rule c = search needs
 
 element-set-from-rule : tie.Need-element-set-from-rule Inv-scan μ-scan
-element-set-from-rule c = search rows-place
+element-set-from-rule c = search needs
 
 add-rules : tie.Need-add-rules Inv-scan μ-scan
 add-rules c = search needs

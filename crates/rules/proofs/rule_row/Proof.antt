@@ -1,7 +1,7 @@
 -- A line is its start and its end; the first of them that is refused decides.
 -- Assumes nothing.
 use borrow.Author.Needs.{needs}
-use Rattle.rules.proofs.Rows.{rowing, row-space, row-read}
+use Rattle.rules.proofs.Rows.{rowing}
 use Rattle.rules.proofs.rule_row.Statement.{statement}
 use Rattle.rules.proofs.rule_row.Tie as tie
 

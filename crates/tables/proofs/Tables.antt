@@ -1,0 +1,253 @@
+-- The tables of a well-formed sheet: they are sized, and they stand for that sheet.
+use Prim.Native.Nat.{ℕ, zero, suc, _+_, _-_, _*_, _<_, _≤_}
+use mathlib.Core.Path.{_≡_, refl, sym, _∙_, ap, subst}
+use mathlib.Core.Bool.{Bool, true, false, true≢false}
+use mathlib.Core.List.{List, [], _∷_, _++_, map, append-assoc, map-append}
+use mathlib.Core.Option.{Option, none, some}
+use mathlib.Core.Logic.{inl, inr, ⊎-elim}
+use native.Mathlib.Omega.{arith}
+use native.Mathlib.Decide.{ℕ-discrete}
+use lib.ListN.{length, take, drop, getD, replicate, length-append, length-map, List·getD-append, List·getD-map}
+use lib.Seq.{take-length, take-append-seam, drop-append-add, getD-append-add}
+use Rattle.meaning.specs.Text.{In, isIn, run, joined, from}
+use Rattle.meaning.specs.Name.{Name, nameByte}
+use Rattle.meaning.specs.Sheet.{Sheet, Event, Status, eventNames, statusNames, statuses}
+use Rattle.meaning.specs.Graph.{without}
+use Rattle.theory.specs.Lists.{in-cases, map-in, Once, is-in, in-is, without-in, once-without, length-without, at-place}
+use Rattle.theory.specs.Names.{Good, good-short, good-plain}
+use Rattle.theory.specs.Formed.{Each, UnderIn, StatusIn, EventIn, Well}
+use Rattle.text.specs.Packed.{packed, named}
+use Rattle.text.proofs.Packs.{Plain, plain-run}
+use Rattle.text.proofs.Callers.{named-packed}
+use Rattle.tables.specs.declared.Heads.{Heads}
+use Rattle.tables.specs.Heads.{padded, underCode, underOf, allNames, asHeads, namesAt, eventAt, statusAt, headsOf, Sized, Again}
+use Rattle.tables.proofs.Padded.{padded-length, names-part}
+
+-- GOOD NAMES are told by their numbers
+good-again : (w : Name) → Good w → named (packed w) ≡ w
+good-again w g =
+    let e : take (run nameByte w) w ≡ w = rw (good-plain w g) (take-length w) in
+    let p : Plain w = subst Plain e (plain-run w) in
+    named-packed w (record { plain = p; short = good-short w g })
+
+again-each : (ns : List Name) → Each Good ns → Again ns
+again-each [] h = refl
+again-each (w ∷ ns) h = rw (good-again w (h w (inl refl)), again-each ns (λ x m. h x (inr m)))
+
+-- A LIST IN AN ARRAY, place by place
+blank-at : {A : Type 0} (m i : ℕ) (d : A) → getD (replicate m d) i d ≡ d
+blank-at zero i d = refl
+blank-at (suc m) zero d = refl
+blank-at (suc m) (suc i) d = blank-at m i d
+
+padded-at : {A : Type 0} (n : ℕ) (d : A) (xs : List A) (i : ℕ) → getD (padded n d xs) i d ≡ getD xs i d
+unfolding padded
+padded-at n d xs i = go (n - length xs) xs i
+  where
+    go : (m : ℕ) (ys : List _) (i : ℕ) → getD (ys ++ replicate m d) i d ≡ getD ys i d
+    go m [] i = blank-at m i d
+    go m (y ∷ ys) zero = refl
+    go m (y ∷ ys) (suc i) = go m ys i
+
+-- a bound for all members
+mapped-at : {A : Type 0} (f : A → ℕ) (k : ℕ) (xs : List A) (i : ℕ) → ((x : A) → In x xs → f x ≤ k) → getD (map f xs) i 0 ≤ k
+mapped-at f k [] i h = omega arith
+mapped-at f k (x ∷ xs) zero h = h x (inl refl)
+mapped-at f k (x ∷ xs) (suc i) h = mapped-at f k xs i (λ y m. h y (inr m))
+
+-- different numbers below m are at most m
+below : (m f : ℕ) → f < suc m → (f ≡ m → ⊥) → f < m
+below m f h ne = go (ℕ-discrete f m)
+  where
+    go : Dec (f ≡ m) → f < m
+    go (yes z) = absurd (ne z)
+    go (no z) = omega arith
+
+few-below : (m : ℕ) (l : List ℕ) → Once l → Each (λ f. f < m) l → length l ≤ m
+few-below zero [] o h = omega arith
+few-below zero (x ∷ l) o h = absurd (omega (arith, h x (inl refl)))
+few-below (suc m) l o h = go (isIn m l) refl (few-below m)
+  where
+    go : (b : Bool) → isIn m l ≡ b → ((k : List ℕ) → Once k → Each (λ f. f < m) k → length k ≤ m) → length l ≤ suc m
+    go true e ih =
+        omega (arith, length-without m l o (is-in m l e), ih (without m l) (once-without m l o) (λ f i. let p = without-in f m l i in below m f (h f (p .0)) (p .1)))
+    go false e ih = omega (arith, ih l o (λ f i. below m f (h f i) (λ z. true≢false (sym (subst (λ k. isIn k l ≡ true) z (in-is f l i)) ∙ e))))
+
+-- THE FIELDS THAT EVENTS CARRY
+row-first : (c b : List ℕ) → take (length c) (padded 16 0 c ++ b) ≡ c
+unfolding padded
+row-first c b = rw (append-assoc c) (take-append-seam c _)
+
+abbrev row : Event → List ℕ
+row e = padded 16 0 (e .carries)
+
+module _ (m : ℕ) (few : m ≤ 16) where
+  carries-few : (e : Event) → EventIn m e → length (e .carries) ≤ 16
+  carries-few e h = omega (arith, few-below m (e .carries) (h .once) (h .carries))
+
+  row-length : (e : Event) → EventIn m e → length (row e) ≡ 16
+  row-length e h = padded-length 16 0 (e .carries) (carries-few e h)
+
+  row-below : (e : Event) → EventIn m e → (i : ℕ) → i < length (e .carries) → getD (row e) i 0 < m
+  row-below e h i g = rw (padded-at 16 0 (e .carries) i) (h .carries (getD (e .carries) i 0) (at-place (e .carries) i g))
+
+  -- place by place
+  cells-below : (es : List Event) → Each (EventIn m) es → (e i : ℕ) → i < getD (map (λ (x : Event). length (x .carries)) es) e 0 → getD (joined row es) (16 * e + i) 0 < m
+  unfolding joined
+  cells-below [] h e i g = absurd (omega arith)
+  cells-below (x ∷ es) h zero i g =
+      let k : i < length (row x) = omega (arith, row-length x (h x (inl refl)), carries-few x (h x (inl refl))) in
+      let z : 16 * 0 + i ≡ i = omega arith in
+      rw (z, List·getD-append (row x) (joined row es) 0 i k) (row-below x (h x (inl refl)) i g)
+  cells-below (x ∷ es) h (suc e) i g =
+      let z : 16 * suc e + i ≡ length (row x) + (16 * e + i) = omega (arith, row-length x (h x (inl refl))) in
+      rw (z, getD-append-add (row x) (joined row es) (16 * e + i) 0) (cells-below es (λ y k. h y (inr k)) e i g)
+
+  -- and row by row
+  cells-row : (es : List Event) → Each (EventIn m) es → (e : ℕ) (d : Event) → e < length es → (b : List ℕ)
+      → take (length (getD es e d .carries)) (drop (16 * e) (joined row es ++ b)) ≡ getD es e d .carries
+  unfolding joined
+  cells-row [] h e d g b = absurd (omega arith)
+  cells-row (x ∷ es) h zero d g b = rw (append-assoc (row x) (joined row es) b) (row-first (x .carries) (joined row es ++ b))
+  cells-row (x ∷ es) h (suc e) d g b =
+      let z : 16 * suc e ≡ length (row x) + 16 * e = omega (arith, row-length x (h x (inl refl))) in
+      rw (z, append-assoc (row x) (joined row es) b, drop-append-add (row x) (joined row es ++ b) (16 * e)) (cells-row es (λ y k. h y (inr k)) e d (omega arith) b)
+
+-- THE TABLES ARE SIZED
+code-few : (k : ℕ) (u : Option ℕ) → UnderIn k u → underCode u ≤ k
+code-few k none h = omega arith
+code-few k (some p) h = omega arith
+
+statuses-in : (sh : Sheet) → Well sh → Each (StatusIn (length (sh .stages))) (statuses sh)
+unfolding statuses
+statuses-in sh w x m = ⊎-elim (w .stages x) (w .miles x) (in-cases x (sh .stages) (sh .miles) m)
+
+pub sized : (sh : Sheet) → Well sh → Sized (asHeads sh)
+unfolding asHeads statuses
+sized sh w =
+    let f = length (sh .fields) in
+    let many : Event → ℕ = λ (e : Event). length (e .carries) in
+    let code : Status → ℕ = λ (s : Status). underCode (s .under) in
+    record {
+      few-fields = w .fields-few;
+      few-events = w .events-few;
+      few-statuses = omega (arith, w .statuses-few, length-append (sh .stages) (sh .miles));
+      few-carried = λ e. rw (padded-at 16 0 (map many (sh .events)) e) (mapped-at many 16 (sh .events) e (λ x m. carries-few f (w .fields-few) x (w .events x m)));
+      fields-carried = λ e i h.
+          rw (padded-at 256 0 (joined row (sh .events)) (16 * e + i)) (cells-below f (w .fields-few) (sh .events) (w .events) e i (rw (padded-at 16 0 (map many (sh .events)) e) at h));
+      under-stage = λ x. rw (padded-at 32 0 (map code (statuses sh)) x) (mapped-at code (length (sh .stages)) (statuses sh) x (λ s m. code-few (length (sh .stages)) (s .under) (statuses-in sh w s m .under)));
+    }
+
+-- AND STAND FOR THE SHEET
+
+-- a list told place by place
+from-at : {A : Type 0} (g : ℕ → A) (d : A) (xs : List A) (k : ℕ) → ((i : ℕ) → i < length xs → g (k + i) ≡ getD xs i d) → map g (from k (length xs)) ≡ xs
+unfolding from
+from-at g d [] k h = refl
+from-at g d (x ∷ xs) k h =
+    let e : g k ≡ x = rw (← plus-zero k) (h 0 (omega arith)) in
+    rw (e, from-at g d xs (suc k) (λ i j. let z : suc k + i ≡ k + suc i = omega arith in rw z (h (suc i) (omega arith))))
+  where
+    plus-zero : (k : ℕ) → k + 0 ≡ k
+    plus-zero k = omega arith
+
+code-back : (u : Option ℕ) → underOf (underCode u) ≡ u
+code-back none = refl
+code-back (some p) = refl
+
+-- the name at a place
+name-at : (sh : Sheet) → Each Good (allNames sh) → (i : ℕ) → i < length (allNames sh) → named (getD (asHeads sh .names) i 0) ≡ getD (allNames sh) i []
+unfolding asHeads packed
+name-at sh h i g =
+    let e : getD (map packed (allNames sh)) i 0 ≡ packed (getD (allNames sh) i []) = List·getD-map packed (allNames sh) i [] in
+    rw (padded-at 64 0 (map packed (allNames sh)) i, e) (good-again (getD (allNames sh) i []) (h _ (member (allNames sh) i g)))
+  where
+    member : (l : List Name) (i : ℕ) → i < length l → In (getD l i []) l
+    member [] i h = absurd (omega arith)
+    member (x ∷ l) zero h = inl refl
+    member (x ∷ l) (suc i) h = inr (member l i (omega arith))
+
+abbrev noEvent : Event
+noEvent = record { name = []; carries = [] }
+
+abbrev noStatus : Status
+noStatus = record { name = []; under = none }
+
+module _ (sh : Sheet) (w : Well sh) where
+  all-good : Each Good (allNames sh)
+  unfolding allNames eventNames statusNames
+  all-good n m =
+      ⊎-elim
+      (λ i. ⊎-elim (w .fields n) (λ j. let (e, k, z) = map-in (λ (x : Event). x .name) n (sh .events) j in subst Good (sym z) (w .events e k .name)) (in-cases n (sh .fields) (eventNames (sh .events)) i))
+      (λ i. let (x, k, z) = map-in (λ (x : Status). x .name) n (statuses sh) i in subst Good (sym z) (statuses-in sh w x k .name))
+      (in-cases n (sh .fields ++ eventNames (sh .events)) (statusNames (statuses sh)) m)
+
+  abbrev tables : Heads
+  tables = asHeads sh
+
+  names-all : length (allNames sh) ≡ length (sh .fields) + length (sh .events) + length (statuses sh)
+  unfolding allNames eventNames statusNames
+  names-all =
+      let a = length-append (sh .fields ++ eventNames (sh .events)) (statusNames (statuses sh)) in
+      let b = length-append (sh .fields) (eventNames (sh .events)) in
+      omega (arith, length-map (sh .events) (λ (x : Event). x .name), length-map (statuses sh) (λ (x : Status). x .name))
+
+  event-name : (e : ℕ) → e < length (sh .events) → getD (allNames sh) (length (sh .fields) + e) [] ≡ getD (sh .events) e noEvent .name
+  unfolding allNames eventNames
+  event-name e h =
+      let a = length-append (sh .fields) (eventNames (sh .events)) in
+      let b = length-map (sh .events) (λ (x : Event). x .name) in
+      let k : length (sh .fields) + e < length (sh .fields ++ eventNames (sh .events)) = omega arith in
+      rw (List·getD-append (sh .fields ++ eventNames (sh .events)) (statusNames (statuses sh)) [] (length (sh .fields) + e) k, getD-append-add (sh .fields) (eventNames (sh .events)) e [])
+      (List·getD-map (λ (x : Event). x .name) (sh .events) e noEvent)
+
+  status-name : (x : ℕ) → getD (allNames sh) (length (sh .fields) + length (sh .events) + x) [] ≡ getD (statuses sh) x noStatus .name
+  unfolding allNames statusNames eventNames
+  status-name x =
+      let a = length-append (sh .fields) (eventNames (sh .events)) in
+      let b = length-map (sh .events) (λ (x : Event). x .name) in
+      let k : length (sh .fields) + length (sh .events) + x ≡ length (sh .fields ++ eventNames (sh .events)) + x = omega arith in
+      rw (k, getD-append-add (sh .fields ++ eventNames (sh .events)) (statusNames (statuses sh)) x []) (List·getD-map (λ (x : Status). x .name) (statuses sh) x noStatus)
+
+  carried-is : (e : ℕ) → e < length (sh .events) → take (length (getD (sh .events) e noEvent .carries)) (drop (16 * e) (tables .carried)) ≡ getD (sh .events) e noEvent .carries
+  unfolding asHeads padded
+  carried-is e h = cells-row (length (sh .fields)) (w .fields-few) (sh .events) (w .events) e noEvent h _
+
+  event-is : (e : ℕ) → e < length (sh .events) → eventAt tables e ≡ getD (sh .events) e noEvent
+  unfolding asHeads
+  event-is e h =
+      let many : Event → ℕ = λ (x : Event). length (x .carries) in
+      let n = name-at sh all-good (length (sh .fields) + e) (omega (arith, names-all)) ∙ event-name e h in
+      let c : getD (tables .carries) e 0 ≡ length (getD (sh .events) e noEvent .carries) = padded-at 16 0 (map many (sh .events)) e ∙ List·getD-map many (sh .events) e noEvent in
+      rw (n, c, carried-is e h)
+
+  status-is : (x : ℕ) → x < length (statuses sh) → statusAt tables x ≡ getD (statuses sh) x noStatus
+  unfolding asHeads
+  status-is x h =
+      let code : Status → ℕ = λ (s : Status). underCode (s .under) in
+      let n = name-at sh all-good (length (sh .fields) + length (sh .events) + x) (omega (arith, names-all)) ∙ status-name x in
+      let u : getD (tables .under) x 0 ≡ underCode (getD (statuses sh) x noStatus .under) = padded-at 32 0 (map code (statuses sh)) x ∙ List·getD-map code (statuses sh) x noStatus in
+      rw (n, u, code-back (getD (statuses sh) x noStatus .under))
+
+  fields-again : namesAt tables 0 (length (sh .fields)) ≡ sh .fields
+  unfolding namesAt asHeads allNames
+  fields-again = rw (append-assoc (sh .fields)) (names-part 64 [] (sh .fields) (eventNames (sh .events) ++ statusNames (statuses sh)) (again-each (sh .fields) (w .fields)))
+
+  events-again : map (eventAt tables) (from 0 (length (sh .events))) ≡ sh .events
+  events-again = from-at (eventAt tables) noEvent (sh .events) 0 (λ i h. let z : 0 + i ≡ i = omega arith in rw z (event-is i h))
+
+  stages-again : map (statusAt tables) (from 0 (length (sh .stages))) ≡ sh .stages
+  unfolding statuses
+  stages-again =
+      from-at (statusAt tables) noStatus (sh .stages) 0
+      (λ i h. let z : 0 + i ≡ i = omega arith in rw z (status-is i (omega (arith, length-append (sh .stages) (sh .miles))) ∙ List·getD-append (sh .stages) (sh .miles) noStatus i h))
+
+  miles-again : map (statusAt tables) (from (length (sh .stages)) (length (sh .miles))) ≡ sh .miles
+  unfolding statuses
+  miles-again =
+      from-at (statusAt tables) noStatus (sh .miles) (length (sh .stages))
+      (λ i h. status-is (length (sh .stages) + i) (omega (arith, length-append (sh .stages) (sh .miles))) ∙ getD-append-add (sh .stages) (sh .miles) i noStatus)
+
+  pub heads-again : sh .rules ≡ [] → headsOf (asHeads sh) ≡ sh
+  unfolding headsOf asHeads
+  heads-again bare = rw (good-again (sh .model) (w .model), fields-again, events-again, stages-again, miles-again, ← bare)
