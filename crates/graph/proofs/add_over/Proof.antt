@@ -1,0 +1,28 @@
+-- `graph::add_over` adds the edges of a parent or home: each return is one case of `overNodes`.
+-- Assumes nothing.
+use borrow.Author.Needs.{needs}
+use Rattle.graph.proofs.Laws.{covering}
+use Rattle.graph.proofs.add_over.Statement.{statement}
+use Rattle.graph.proofs.add_over.Tie as tie
+
+returns : tie.Need-returns
+returns c = search (needs, covering)
+
+returns-2 : tie.Need-returns-2
+returns-2 c = search (needs, covering)
+
+wide-requires : tie.Need-wide-requires
+wide-requires c κs = search (needs, covering)
+
+sub-link-both : tie.Need-sub-link-both
+sub-link-both c = search (needs, covering)
+
+link-both-requires : tie.Need-link-both-requires
+link-both-requires c κs = search (needs, covering)
+
+returns-3 : tie.Need-returns-3
+returns-3 c = search (needs, covering)
+
+pub add-over-spec : {M : Type 1} → statement M
+add-over-spec =
+    tie.close (tie.spec returns returns-2 wide-requires sub-link-both link-both-requires returns-3)

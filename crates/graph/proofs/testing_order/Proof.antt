@@ -1,0 +1,25 @@
+-- `graph::testing_order` answers the order of the tables' graph: the masks have its edges, and only the edges decide the order.
+-- Assumes nothing.
+use borrow.Author.Needs.{needs}
+use Rattle.graph.proofs.Laws.{ordering}
+use Rattle.graph.proofs.testing_order.Statement.{statement}
+use Rattle.graph.proofs.testing_order.Tie as tie
+
+add-rules-requires : tie.Need-add-rules-requires
+add-rules-requires c κs = search (needs, ordering)
+
+add-closings-requires : tie.Need-add-closings-requires
+add-closings-requires c κs = search (needs, ordering)
+
+mul-sort : tie.Need-mul-sort
+mul-sort c = search (needs, ordering)
+
+sort-requires : tie.Need-sort-requires
+sort-requires c κs = search (needs, ordering)
+
+returns : tie.Need-returns
+returns c = search (needs, ordering)
+
+pub testing-order-spec : {M : Type 1} → statement M
+testing-order-spec =
+    tie.close (tie.spec add-rules-requires add-closings-requires mul-sort sort-requires returns)
