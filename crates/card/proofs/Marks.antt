@@ -1,0 +1,210 @@
+-- The lines of the statuses, one at a time, and the first stage that is yes under a parent that is no.
+use Prim.Native.Nat.{ℕ, zero, suc, _+_, _-_, _≤_, _<_}
+use mathlib.Core.Path.{_≡_, refl, sym, _∙_, ap}
+use mathlib.Core.Bool.{Bool, true, false, cond, not, _&&_}
+use mathlib.Core.List.{List, [], _∷_, _++_, map}
+use mathlib.Core.Option.{Option, none, some, Option·none-ne-some, Option·some-injective}
+use native.Mathlib.Omega.{arith}
+use native.Mathlib.Numerals.{add-one}
+use borrow.Author.Tests.{eq-eqb, ne-eqb}
+use lib.Dec.{eqb}
+use lib.ListN.{length, take, drop, getD, set, replicate, length-drop, length-append, List·getD-map}
+use lib.Seq.{drop-drop, drop-length, getD-drop}
+use mir.Val.{Fits}
+use mir.Syntax.{w64}
+use Rattle.meaning.specs.Text.{from}
+use Rattle.meaning.specs.Reading.{Got, got, wrong, each}
+use Rattle.meaning.specs.Name.{Name}
+use Rattle.meaning.specs.Sheet.{Status}
+use Rattle.meaning.specs.Card.{is, statusMark, ended, shut, orphan}
+use Rattle.text.specs.Packed.{named}
+use Rattle.tables.specs.declared.Heads.{Heads}
+use Rattle.tables.specs.Heads.{Sized, padded, underOf, statusAt, headsOf}
+use Rattle.lines.specs.declared.MarkPiece.{MarkPiece}
+use Rattle.lines.specs.declared.MarkPiece.the-variants as M
+use Rattle.card.specs.declared.MarksRead.{MarksRead}
+use Rattle.card.specs.declared.Orphan.the-variants as O
+use Rattle.card.specs.Answers.{markCode}
+use Rattle.card.specs.Parts.{MarksAs, sideOf, asOrphan}
+use Rattle.lines.specs.Answers.{asMark}
+use Rattle.lines.proofs.Pieces.{Marked}
+use Rattle.lines.proofs.Callers.{status-took, status-kept}
+use Rattle.card.proofs.Faults.{sound-wrong, sounds-status}
+use Rattle.card.proofs.Rows.{column-more, names-cons, names-length, before, before-none, each-wrong, each-more, each-over}
+
+-- THE LINES
+abbrev statusLines : List Name → ℕ → List ℕ → Got (List Bool)
+statusLines ns = each (λ n. ended (statusMark n)) ns
+
+mark-code : (b : Bool) → cond b 2 0 ≡ markCode b
+mark-code true = refl
+mark-code false = refl
+
+-- before line i of these
+pub record MarksAt (s : List ℕ) (ns : List Name) (p line at : ℕ) (marks : List ℕ) (i : ℕ) : Type 0 where
+  pub bs : List Bool
+  pub many : length bs ≡ i
+  pub few : i ≤ length ns
+  pub held : marks ≡ padded 32 0 (map markCode bs)
+  pub within : at ≤ length s
+  pub same : statusLines ns line (drop p s) ≡ before bs (statusLines (drop i ns) (line + i) (drop at s))
+
+pub marks-start : (s : List ℕ) (ns : List Name) (p line : ℕ) → p ≤ length s → MarksAt s ns p line p (replicate 32 0) 0
+unfolding padded
+marks-start s ns p line h =
+    let z : line + 0 ≡ line = omega arith in
+    record { bs = []; many = refl; few = omega arith; held = refl; within = h; same = rw z (before-none _) }
+
+module _ (s names : List ℕ) (first count p line at : ℕ) (marks : List ℕ) (i : ℕ)
+    (g : MarksAt s (map named (take count (drop first names))) p line at marks i) (held : first + count ≤ length names) where
+  fewer : count ≤ length (drop first names)
+  fewer = omega (arith, length-drop first names)
+
+  pub marks-done : count ≤ i → (l : ℕ) → l ≡ line + count
+      → MarksAs s names first count p line (record { number = 0; line = l; at = at; marks = marks })
+  marks-done h l z =
+      let ns = map named (take count (drop first names)) in
+      let e : i ≡ length ns = omega (arith, g .few, names-length (drop first names) count fewer) in
+      let d : line + i ≡ l = omega (arith, names-length (drop first names) count fewer) in
+      let y : statusLines ns line (drop p s) ≡ got (g .bs) l (drop at s) = g .same ∙ rw (d, e, drop-length ns) (each-over _ l (drop at s) (g .bs)) in
+      record { few = held; gave = record { within = g .within; low = omega arith; good = λ _. (g .bs, g .held, y); bad = λ n. absurd (n refl) } }
+
+  module _ (more : i < count) (j : ℕ) (where? : j ≡ first + i) (t : List ℕ) (q : MarkPiece) (rest : t ≡ drop at s)
+      (is : q ≡ asMark t (ended (statusMark (named (getD names j 0))) 0 t)) where
+    here : drop i (map named (take count (drop first names))) ≡ named (getD names j 0) ∷ drop (i + 1) (map named (take count (drop first names)))
+    here = names-cons (drop first names) count i more fewer ∙ rw (getD-drop first names i 0, where?)
+
+    pub marks-bad : (k l : ℕ) (r : MarksRead) → q ≡ M.Refused k → l ≡ line + i → (r .number ≡ k) × (r .line ≡ l) × (r .at ≡ 0) → MarksAs s names first count p line r
+    marks-bad k l r e y z =
+        let w : ended (statusMark (named (getD names j 0))) l t ≡ wrong k l = status-kept _ t q is k e l in
+        let u : statusLines (map named (take count (drop first names))) line (drop p s) ≡ wrong k l
+        = g .same ∙ rw (← y, ← rest, here) (each-wrong _ _ _ l t k l (g .bs) w) in
+        let n : k ≡ 0 → ⊥ = sound-wrong _ k l (sounds-status (named (getD names j 0)) .of l t) w in
+        record { few = held; gave = record { within = omega (arith, z .2); low = omega (arith, z .1); good = λ o. absurd (n (sym (z .0) ∙ o)); bad = λ _. u ∙ rw (z .0, z .1) } }
+
+    module _ (b n : ℕ) (e : q ≡ M.Mark b n) where
+      taken : Marked suc (ended (statusMark (named (getD names j 0)))) t b n
+      taken = status-took _ t q is b n e
+
+      fits : at + n ≤ length s
+      fits = omega (arith, taken .within, ap length rest, length-drop at s, g .within)
+
+      pub marks-room : length s ≤ 1024 → (k : ℕ) → k ≡ at + n → Fits w64 k
+      marks-room h k z = omega (arith, fits)
+
+      pub marks-more : count ≤ 32 → (at′ i′ : ℕ) → at′ ≡ at + n → i′ ≡ i + 1 → MarksAt s (map named (take count (drop first names))) p line at′ (set marks i b) i′
+      marks-more h at′ i′ x y =
+          let ns = map named (take count (drop first names)) in
+          let d : length ns ≡ count = names-length (drop first names) count fewer in
+          let m : statusLines (drop i ns) (line + i) (drop at s) ≡ statusLines (named (getD names j 0) ∷ drop (i + 1) ns) (line + i) t = rw (← rest, here) in
+          let o : drop n t ≡ drop at′ s = rw (rest, drop-drop n at s, x) in
+          let z : line + i′ ≡ suc (line + i) = omega arith in
+          record {
+            bs = g .bs ++ (taken .answer ∷ []);
+            many = rw (length-append (g .bs) (taken .answer ∷ [])) (omega (arith, g .many));
+            few = omega arith;
+            held = column-more markCode 32 marks (g .bs) (taken .answer) i b (g .held) (g .many) (omega arith) (taken .mark ∙ mark-code (taken .answer));
+            within = omega (arith, fits);
+            same = g .same
+                ∙ ap (before (g .bs)) m
+                ∙ each-more _ (named (getD names j 0)) (drop (i + 1) ns) (line + i) t (taken .answer) (suc (line + i)) (drop n t) (g .bs) (taken .is (line + i))
+                ∙ rw (o, z, y);
+          }
+
+pub ruleset marking = (marks-start, marks-done, marks-bad, marks-room, marks-more)
+
+-- ORPHANS
+yes-at : (marks : List ℕ) (x : ℕ) → is (sideOf marks) x ≡ eqb (getD marks x 0) 2
+unfolding sideOf
+yes-at marks x = List·getD-map (λ (m : ℕ). eqb m 2) marks x 0
+
+module _ (marks : List ℕ) (mark under : ℕ) where
+  pub orphan-no : (mark ≡ 2 → ⊥) → false ≡ (eqb mark 2 && shut (sideOf marks) (underOf under))
+  orphan-no h = rw (ne-eqb mark 2 h)
+
+  module _ (yes : mark ≡ 2) where
+    pub orphan-top : under ≡ 0 → false ≡ (eqb mark 2 && shut (sideOf marks) (underOf under))
+    orphan-top e = rw (eq-eqb mark 2 yes, e)
+
+    pub orphan-under : (under ≡ 0 → ⊥) → not (eqb (getD marks (under - 1) 0) 2) ≡ (eqb mark 2 && shut (sideOf marks) (underOf under))
+    orphan-under h =
+        let z : under ≡ suc (under - 1) = omega arith in
+        let y : shut (sideOf marks) (underOf under) ≡ not (is (sideOf marks) (under - 1)) = ap (λ u. shut (sideOf marks) (underOf u)) z in
+        rw (eq-eqb mark 2 yes, y, yes-at marks (under - 1))
+
+pub ruleset judging = (orphan-no, orphan-top, orphan-under)
+
+-- the stages from place x on
+abbrev pub stagesFrom : Heads → ℕ → List Status
+stagesFrom h x = map (statusAt h) (from x (h .stages - x))
+
+pub scan-under : (h : Heads) (x : ℕ) → Sized h → getD (h .under) x 0 ≤ 32
+scan-under h x z = omega (arith, z .under-stage x, z .few-statuses)
+
+pub scan-start : (h : Heads) (side : List Bool) → orphan side 0 (headsOf h .stages) ≡ orphan side 0 (stagesFrom h 0)
+unfolding headsOf
+scan-start h side = let z : h .stages - 0 ≡ h .stages = omega arith in rw z
+
+module _ (h : Heads) (marks : List ℕ) (x : ℕ) (so : orphan (sideOf marks) 0 (headsOf h .stages) ≡ orphan (sideOf marks) x (stagesFrom h x)) where
+  pub scan-done : h .stages ≤ x → O.Nothing ≡ asOrphan (orphan (sideOf marks) 0 (headsOf h .stages))
+  unfolding orphan from
+  scan-done e = let z : h .stages - x ≡ 0 = omega arith in rw (so, z)
+
+  module _ (more : x < h .stages) (b : Bool) (is? : b ≡ (eqb (getD marks x 0) 2 && shut (sideOf marks) (underOf (getD (h .under) x 0)))) where
+    one : orphan (sideOf marks) x (stagesFrom h x) ≡ elim b [ true ↦ some x | false ↦ orphan (sideOf marks) (suc x) (stagesFrom h (suc x)) ]
+    unfolding orphan from
+    one =
+        let z : h .stages - x ≡ suc (h .stages - suc x) = omega arith in
+        rw (z, is?, ← yes-at marks x, orphan)
+
+    pub scan-found : b ≡ true → O.At x ≡ asOrphan (orphan (sideOf marks) 0 (headsOf h .stages))
+    scan-found e = rw (so ∙ one, e)
+
+    pub scan-next : b ≡ false → (x′ : ℕ) → x′ ≡ x + 1 → orphan (sideOf marks) 0 (headsOf h .stages) ≡ orphan (sideOf marks) x′ (stagesFrom h x′)
+    scan-next e x′ z = so ∙ one ∙ rw (e, z, add-one)
+
+pub ruleset scanning = (scan-under, scan-start, scan-done, scan-found, scan-next)
+
+-- orphans go by what the statuses are
+pub orphan-same : (a b : List Bool) → ((x : ℕ) → is a x ≡ is b x) → (x : ℕ) (ss : List Status) → orphan a x ss ≡ orphan b x ss
+unfolding orphan
+orphan-same a b h x [] = refl
+orphan-same a b h x (s ∷ ss) = go (s .under) (orphan-same a b h (suc x) ss)
+  where
+    pick : (c : Bool) (o : Option ℕ) {p q : Option ℕ} → p ≡ q → _≡_ {A = Option ℕ} (elim c [ true ↦ o | false ↦ p ]) (elim c [ true ↦ o | false ↦ q ])
+    pick true o e = refl
+    pick false o e = e
+
+    go : (u : Option ℕ) → orphan a (suc x) ss ≡ orphan b (suc x) ss → _≡_ {A = Option ℕ} (elim (is a x && shut a u) [ true ↦ some x | false ↦ orphan a (suc x) ss ]) (elim (is b x && shut b u) [ true ↦ some x | false ↦ orphan b (suc x) ss ])
+    go none e = rw (h x) (pick (is b x && false) (some x) e)
+    go (some p) e = rw (h x, h p) (pick (is b x && not (is b p)) (some x) e)
+
+code-yes : (b : Bool) → eqb (markCode b) 2 ≡ b
+code-yes true = refl
+code-yes false = refl
+
+padded-at : (n : ℕ) (xs : List ℕ) (x : ℕ) → getD (xs ++ replicate n 0) x 0 ≡ getD xs x 0
+padded-at n [] x = zeros n x
+  where
+    zeros : (n x : ℕ) → _≡_ {A = ℕ} (getD (replicate n 0) x 0) 0
+    zeros zero x = refl
+    zeros (suc n) zero = refl
+    zeros (suc n) (suc x) = zeros n x
+padded-at n (y ∷ xs) zero = refl
+padded-at n (y ∷ xs) (suc x) = padded-at n xs x
+
+pub marks-side : (marks : List ℕ) (bs : List Bool) → marks ≡ padded 32 0 (map markCode bs) → (x : ℕ) → is (sideOf marks) x ≡ is bs x
+unfolding padded
+marks-side marks bs e x =
+    yes-at marks x
+    ∙ rw (e, padded-at (32 - length (map markCode bs)) (map markCode bs) x, List·getD-map markCode bs x false) (code-yes (is bs x))
+
+-- an orphan is one of the stages
+pub orphan-below : (side : List Bool) (ss : List Status) (x y : ℕ) → orphan side x ss ≡ some y → y < x + length ss
+unfolding orphan
+orphan-below side [] x y e = absurd (Option·none-ne-some y e)
+orphan-below side (s ∷ ss) x y e = go (is side x && shut side (s .under)) e (orphan-below side ss (suc x) y)
+  where
+    go : (b : Bool) → _≡_ {A = Option ℕ} (elim b [ true ↦ some x | false ↦ orphan side (suc x) ss ]) (some y) → (orphan side (suc x) ss ≡ some y → y < suc x + length ss) → y < x + suc (length ss)
+    go true e ih = let z : x ≡ y = Option·some-injective x y e in omega arith
+    go false e ih = let z = ih e in omega arith
