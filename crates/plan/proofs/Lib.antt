@@ -1,0 +1,4 @@
+-- Laws of the functions:
+pub mod Laws
+-- What callers use of the plan:
+pub mod Callers

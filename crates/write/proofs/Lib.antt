@@ -1,0 +1,9 @@
+-- Laws in the form in which the functions' answers need them: texts put into lent space, names, counts and single lines:
+pub mod Laws
+-- The text of a field, and the lines of a table:
+pub mod Rows
+-- The whole card:
+pub mod Whole
+-- An event line is the text of what was read; what callers may conclude:
+pub mod EventText
+pub mod Callers

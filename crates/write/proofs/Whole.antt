@@ -1,0 +1,239 @@
+-- The whole card: its four parts as the tables give them, and what the lent space holds where it fits and where it does not.
+use mathlib.Core.Path.{_≡_, refl, ap, ap₂, sym, _∙_}
+use mathlib.Core.Bool.{Bool, true, false, cond}
+use mathlib.Core.List.{List, [], _∷_, _++_, map}
+use Prim.Native.Nat.{ℕ, zero, suc, _+_, _-_, _<_, _≤_, min}
+use native.Mathlib.Omega.{arith}
+use borrow.Author.Tests.{le-leb, lt-leb}
+use lib.ListN.{length, drop, take, getD, length-append, length-take, length-drop, length-map}
+use lib.Seq.{drop-cons}
+use Rattle.meaning.specs.Text.{text, from}
+use Rattle.meaning.specs.Number.{Entry, decimal}
+use Rattle.meaning.specs.Sheet.{Sheet, Status, statuses, statusNames}
+use Rattle.meaning.specs.Write.{line, lines, mark, cardText}
+use Rattle.text.specs.Packed.{named}
+use Rattle.tables.specs.declared.Heads.{Heads}
+use Rattle.tables.specs.Heads.{headsOf, namesAt, statusAt, Sized}
+use Rattle.card.specs.declared.Card.{Card}
+use Rattle.card.specs.declared.Happening.{Happening}
+use Rattle.write.specs.declared.Written.{Written}
+use Rattle.write.specs.declared.Written.the-variants.{Bytes, Room}
+use Rattle.write.specs.Texts.{showing, isYes, valueText, nextText}
+use Rattle.write.specs.Answers.{asWritten, spaceWith}
+use Rattle.write.specs.Lines.{Wrote, markAt, linesFrom}
+use Rattle.write.proofs.Laws.{wrote-room, wrote-both, line-long}
+
+-- LINES OF TABLES
+
+length-from : (i n : ℕ) → length (from i n) ≡ n
+unfolding from
+length-from i zero = refl
+length-from i (suc n) = ap suc (length-from (suc i) n)
+
+-- the fields' lines
+fields-lines : (t : ℕ → List ℕ) (ws : List ℕ) (i : ℕ) → lines (λ (e : Entry). e .shown) (map named ws) (map (λ f. showing (t f)) (from i (length ws))) ≡ linesFrom t ws i
+unfolding lines from linesFrom
+fields-lines t [] i = refl
+fields-lines t (w ∷ ws) i = ap (λ r. line (named w) (t i) ++ r) (fields-lines t ws (suc i))
+
+-- the same texts, each one place earlier
+lines-earlier : (t : ℕ → List ℕ) (ws : List ℕ) (i : ℕ) → linesFrom (λ x. t (suc x)) ws i ≡ linesFrom t ws (suc i)
+unfolding linesFrom
+lines-earlier t [] i = refl
+lines-earlier t (w ∷ ws) i = ap (λ r. line (named w) (t (suc i)) ++ r) (lines-earlier t ws (suc i))
+
+-- the statuses' lines
+marks-lines : (ws ms : List ℕ) → length ws ≤ length ms → lines mark (map named ws) (map isYes (take (length ws) ms)) ≡ linesFrom (markAt ms) ws 0
+unfolding lines linesFrom
+marks-lines [] ms h = refl
+marks-lines (w ∷ ws) [] h = absurd (omega arith)
+marks-lines (w ∷ ws) (m ∷ ms) h = ap (λ r. line (named w) (mark (isYes m)) ++ r) (marks-lines ws ms (omega arith) ∙ lines-earlier (markAt (m ∷ ms)) ws 0)
+
+-- the names of the statuses, from place x on
+names-at : (h : Heads) (k x n : ℕ) → k ≡ h .fields + h .events → k + x + n ≤ length (h .names)
+    → map (λ (s : Status). s .name) (map (statusAt h) (from x n)) ≡ map named (take n (drop (k + x) (h .names)))
+unfolding from
+names-at h k x zero e l = refl
+names-at h k x (suc n) e l =
+    let z : k + suc x ≡ suc (k + x) = omega arith in
+    rw (drop-cons (h .names) (k + x) 0 (omega arith))
+    (ap₂ (λ w r. named (getD (h .names) w 0) ∷ r) (ap (λ j. j + x) (sym e)) (rw z at (names-at h k (suc x) n e (omega arith))))
+
+from-append : (i a b : ℕ) → from i a ++ from (i + a) b ≡ from i (a + b)
+unfolding from
+from-append i zero b =
+    let z : i + 0 ≡ i = omega arith in
+    let y : 0 + b ≡ b = omega arith in
+    rw (z, y)
+from-append i (suc a) b =
+    let z : i + suc a ≡ suc i + a = omega arith in
+    let y : suc a + b ≡ suc (a + b) = omega arith in
+    rw (z, y) (ap (λ r. i ∷ r) (from-append (suc i) a b))
+
+map-both : {A B : Type 0} (f : A → B) (xs ys : List A) → map f (xs ++ ys) ≡ map f xs ++ map f ys
+map-both f [] ys = refl
+map-both f (x ∷ xs) ys = ap (λ r. f x ∷ r) (map-both f xs ys)
+
+module _ (h : Heads) where
+  -- the statuses of the tables
+  statuses-are : statuses (headsOf h) ≡ map (statusAt h) (from 0 (h .stages + h .miles))
+  unfolding statuses headsOf
+  statuses-are =
+      let z : 0 + h .stages ≡ h .stages = omega arith in
+      sym (map-both (statusAt h) (from 0 (h .stages)) (from (h .stages) (h .miles)))
+      ∙ ap (map (statusAt h)) (rw z at (from-append 0 (h .stages) (h .miles)))
+
+  module _ (sized : Sized h) (long : length (h .names) ≡ 64) where
+    status-names : statusNames (statuses (headsOf h)) ≡ map named (take (h .stages + h .miles) (drop (h .fields + h .events) (h .names)))
+    unfolding statusNames
+    status-names =
+        let z : h .fields + h .events + 0 ≡ h .fields + h .events = omega arith in
+        rw statuses-are (rw z at (names-at h (h .fields + h .events) 0 (h .stages + h .miles) refl (omega (arith, sized .few-fields, sized .few-events, sized .few-statuses))))
+
+-- THE NEXT CARD OF THE TABLES
+
+module _ (h : Heads) (event card : List ℕ) (e : Happening) (c : Card) (marks : List ℕ) where
+  abbrev caseLine : List ℕ
+  caseLine = line (text "case") (named (h .model))
+
+  abbrev fieldsLines : List ℕ
+  fieldsLines = linesFrom (valueText event card e c) (take (h .fields) (h .names)) 0
+
+  abbrev marksLines : List ℕ
+  marksLines = linesFrom (markAt marks) (take (h .stages + h .miles) (drop (h .fields + h .events) (h .names))) 0
+
+  abbrev endLine : List ℕ
+  endLine = line (text "end") (decimal (h .fields + (h .stages + h .miles)))
+
+  module _ (sized : Sized h) (long : length (h .names) ≡ 64) (held : length marks ≡ 32) where
+    fields-many : length (take (h .fields) (h .names)) ≡ h .fields
+    fields-many = omega (arith, length-take (h .fields) (h .names), sized .few-fields)
+
+    statuses-many : length (take (h .stages + h .miles) (drop (h .fields + h .events) (h .names))) ≡ h .stages + h .miles
+    statuses-many =
+        omega (arith, length-take (h .stages + h .miles) (drop (h .fields + h .events) (h .names)), length-drop (h .fields + h .events) (h .names), sized .few-fields, sized .few-events, sized .few-statuses)
+
+    fields-are : (t : ℕ → List ℕ) → lines (λ (e : Entry). e .shown) (headsOf h .fields) (map (λ f. showing (t f)) (from 0 (length (headsOf h .fields)))) ≡ linesFrom t (take (h .fields) (h .names)) 0
+    unfolding headsOf namesAt
+    fields-are t = rw (length-map (take (h .fields) (h .names)) named) (fields-lines t (take (h .fields) (h .names)) 0)
+
+    fields-count : length (headsOf h .fields) ≡ h .fields
+    unfolding headsOf namesAt
+    fields-count = length-map (take (h .fields) (h .names)) named ∙ fields-many
+
+    statuses-count : length (statuses (headsOf h)) ≡ h .stages + h .miles
+    statuses-count = rw (statuses-are h) (length-map (from 0 (h .stages + h .miles)) (statusAt h) ∙ length-from 0 (h .stages + h .miles))
+
+    marks-are : lines mark (statusNames (statuses (headsOf h))) (map isYes (take (h .stages + h .miles) marks)) ≡ marksLines
+    marks-are =
+        let ws = take (h .stages + h .miles) (drop (h .fields + h .events) (h .names)) in
+        let few : length ws ≤ length marks = omega (arith, statuses-many, sized .few-statuses) in
+        rw (status-names h sized long) (rw statuses-many at (marks-lines ws marks few))
+
+    count-is : length (map (λ f. showing (valueText event card e c f)) (from 0 (length (headsOf h .fields)))) + length (map isYes (take (length (statuses (headsOf h))) marks)) ≡ h .fields + (h .stages + h .miles)
+    count-is =
+        omega (
+          arith,
+          length-map (from 0 (length (headsOf h .fields))) (λ f. showing (valueText event card e c f)),
+          length-from 0 (length (headsOf h .fields)),
+          fields-count,
+          length-map (take (length (statuses (headsOf h))) marks) isYes,
+          length-take (length (statuses (headsOf h))) marks,
+          statuses-count,
+          sized .few-statuses,
+        )
+
+    model-is : headsOf h .model ≡ named (h .model)
+    unfolding headsOf
+    model-is = refl
+
+    next-is : nextText (headsOf h) event card e c marks ≡ caseLine ++ fieldsLines ++ marksLines ++ endLine
+    unfolding nextText cardText
+    next-is = rw (fields-are (valueText event card e c), count-is, statuses-count, marks-are, model-is)
+
+    -- measured
+    pub card-long : (m b d k : ℕ) → m ≡ length (named (h .model)) → b ≡ length fieldsLines → d ≡ length marksLines
+        → k ≡ length (decimal (h .fields + (h .stages + h .miles))) → (r : ℕ) → r ≡ m + 6 + b + d + k + 5 → r ≡ length (nextText (headsOf h) event card e c marks)
+    card-long m b d k p q s t r z =
+        let a1 = line-long (text "case") (named (h .model)) in
+        let a2 = line-long (text "end") (decimal (h .fields + (h .stages + h .miles))) in
+        rw next-is (simp length-append (omega arith))
+
+    -- written, one part behind the other
+    module _ (o : List ℕ) (fits : length (nextText (headsOf h) event card e c marks) ≤ length o) where
+      whole : 0 + length (caseLine ++ fieldsLines ++ marksLines ++ endLine) ≤ length o
+      whole = let f = rw next-is at fits in omega arith
+
+      whole-2 : 0 + length (caseLine ++ fieldsLines ++ marksLines) ≤ length o
+      whole-2 = omega (arith, whole, length-append (caseLine ++ fieldsLines ++ marksLines) endLine)
+
+      whole-1 : 0 + length (caseLine ++ fieldsLines) ≤ length o
+      whole-1 = omega (arith, whole-2, length-append (caseLine ++ fieldsLines) marksLines)
+
+      pub card-case : length (line (text "case") (named (h .model))) ≤ length o
+      card-case = omega (arith, whole-1, length-append caseLine fieldsLines)
+
+      module _ (o1 : List ℕ) (a : ℕ) (y : Wrote 0 (line (text "case") (named (h .model))) o o1 a) where
+        pub card-fields : a + length (linesFrom (valueText event card e c) (take (h .fields) (h .names)) 0) ≤ length o1
+        card-fields = wrote-room 0 caseLine fieldsLines o o1 a whole-1 y
+
+        module _ (o2 : List ℕ) (b : ℕ) (z : Wrote a (linesFrom (valueText event card e c) (take (h .fields) (h .names)) 0) o1 o2 b) where
+          two : Wrote 0 (caseLine ++ fieldsLines) o o2 b
+          two = wrote-both 0 caseLine fieldsLines o o1 a whole-1 y o2 b z
+
+          pub card-marks : b + length (linesFrom (markAt marks) (take (h .stages + h .miles) (drop (h .fields + h .events) (h .names))) 0) ≤ length o2
+          card-marks = wrote-room 0 (caseLine ++ fieldsLines) marksLines o o2 b whole-2 two
+
+          module _ (o3 : List ℕ) (d : ℕ) (x : Wrote b (linesFrom (markAt marks) (take (h .stages + h .miles) (drop (h .fields + h .events) (h .names))) 0) o2 o3 d) where
+            three : Wrote 0 (caseLine ++ fieldsLines ++ marksLines) o o3 d
+            three = wrote-both 0 (caseLine ++ fieldsLines) marksLines o o2 b whole-2 two o3 d x
+
+            pub card-end : d + length (line (text "end") (decimal (h .fields + (h .stages + h .miles)))) ≤ length o3
+            card-end = wrote-room 0 (caseLine ++ fieldsLines ++ marksLines) endLine o o3 d whole three
+
+            pub card-done : (o4 : List ℕ) (r : ℕ) → Wrote d (line (text "end") (decimal (h .fields + (h .stages + h .miles)))) o3 o4 r → Wrote 0 (nextText (headsOf h) event card e c marks) o o4 r
+            card-done o4 r u = rw next-is (wrote-both 0 (caseLine ++ fieldsLines ++ marksLines) endLine o o3 d whole three o4 r u)
+
+pub names-held : (h : Heads) → Sized h → length (h .names) ≡ 64 → h .fields ≤ length (h .names)
+names-held h sized long = omega (arith, sized .few-fields)
+
+pub statuses-held : (h : Heads) → Sized h → length (h .names) ≡ 64 → (n : ℕ) → n ≡ h .stages + h .miles → h .fields + h .events + n ≤ length (h .names)
+statuses-held h sized long n e = omega (arith, sized .few-fields, sized .few-events, sized .few-statuses)
+
+pub marks-held : (h : Heads) → Sized h → (marks : List ℕ) → length marks ≡ 32 → (n : ℕ) → n ≡ h .stages + h .miles → n ≤ length marks
+marks-held h sized marks long n e = omega (arith, sized .few-statuses)
+
+pub lines-few : (h : Heads) → Sized h → (n : ℕ) → n ≡ h .fields + (h .stages + h .miles) → n < 100
+lines-few h sized n e = omega (arith, sized .few-fields, sized .few-statuses)
+
+pub ruleset carding = (card-case, card-fields, card-marks, card-end, card-done, names-held, statuses-held, marks-held, lines-few)
+
+-- THE LENT SPACE
+
+pub array-long : {B : Type 0} (f : ℕ → B) (xs : List ℕ) → length (map f xs) ≡ 64 → length xs ≡ 64
+array-long f xs e = sym (length-map xs f) ∙ e
+
+-- w is the text of the next card, n its length
+module _ (w : List ℕ) (n : ℕ) (is : n ≡ length w) (o : List ℕ) where
+  pub room-none : length o < n → Room ≡ asWritten o w
+  unfolding asWritten
+  room-none g = sym (rw (← is, lt-leb n (length o) g))
+
+  pub room-kept : length o < n → o ≡ spaceWith o w
+  unfolding spaceWith
+  room-kept g = sym (rw (← is, lt-leb n (length o) g))
+
+  pub room-some : n ≤ length o → Bytes n ≡ asWritten o w
+  unfolding asWritten
+  room-some g = sym (rw (← is, le-leb n (length o) g))
+
+  pub room-filled : n ≤ length o → (o1 : List ℕ) (r : ℕ) → Wrote 0 w o o1 r → o1 ≡ spaceWith o w
+  unfolding spaceWith
+  room-filled g o1 r y =
+      let z : 0 + length w ≡ length w = omega arith in
+      rw z at (y .space) ∙ sym (rw (le-leb (length w) (length o) (omega arith)))
+
+  pub room-fits : n ≤ length o → length w ≤ length o
+  room-fits g = omega arith
+
+pub ruleset rooming = (array-long, room-none, room-kept, room-some, room-filled, room-fits)

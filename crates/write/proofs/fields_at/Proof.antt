@@ -1,0 +1,62 @@
+use borrow.Author.Needs.{needs}
+use Prim.Native.Nat.{_-_}
+use lib.ListN.{take, drop}
+use Rattle.write.specs.Texts.{valueText}
+use Rattle.write.specs.Lines.{linesFrom}
+use Rattle.write.proofs.Laws.{Left}
+use Rattle.write.proofs.Rows.{fields-writing}
+use Rattle.write.proofs.fields_at.Statement.{statement}
+use Rattle.write.proofs.fields_at.Tie as tie
+
+abbrev Inv-loop : tie.InvT-loop
+Inv-loop out₀ at names n event card e c to₀ f₀ out to f = Left at (linesFrom (valueText event card e c) (take n names) 0) out₀ to (linesFrom (valueText event card e c) (drop f (take n names)) f) out
+
+abbrev μ-loop : tie.MeasureT-loop
+μ-loop out₀ at names n event card e c to₀ f₀ out to f = n - f
+
+loop-holds : tie.Need-loop-holds Inv-loop μ-loop
+loop-holds c = search (needs, fields-writing)
+
+value-text-requires : tie.Need-value-text-requires Inv-loop μ-loop
+value-text-requires c κs = search (needs, fields-writing)
+
+mul-line-at : tie.Need-mul-line-at Inv-loop μ-loop
+mul-line-at c = search (needs, fields-writing)
+
+shared-slice-read-line-at : tie.Need-shared-slice-read-line-at Inv-loop μ-loop
+shared-slice-read-line-at c = search (needs, fields-writing)
+
+line-at-requires : tie.Need-line-at-requires Inv-loop μ-loop
+line-at-requires c κs = search (needs, fields-writing)
+
+add-f : tie.Need-add-f Inv-loop μ-loop
+add-f c = search (needs, fields-writing)
+
+loop-less : tie.Need-loop-less Inv-loop μ-loop
+loop-less c = search (needs, fields-writing)
+
+loop-again : tie.Need-loop-again Inv-loop μ-loop
+loop-again c = search (needs, fields-writing)
+
+same-length : tie.Need-same-length Inv-loop μ-loop
+same-length c = search (needs, fields-writing)
+
+returns : tie.Need-returns Inv-loop μ-loop
+returns c = search (needs, fields-writing)
+
+pub fields-at-spec : {M : Type 1} → statement M
+fields-at-spec =
+    tie.close
+    (tie.spec
+    Inv-loop
+    μ-loop
+    loop-holds
+    value-text-requires
+    mul-line-at
+    shared-slice-read-line-at
+    line-at-requires
+    add-f
+    loop-less
+    loop-again
+    same-length
+    returns)
