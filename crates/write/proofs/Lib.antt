@@ -7,3 +7,5 @@ pub mod Whole
 -- An event line is the text of what was read; what callers may conclude:
 pub mod EventText
 pub mod Callers
+-- No second answer fits:
+pub mod Only
