@@ -1,0 +1,11 @@
+-- No second answer fits the contract.
+use mathlib.Core.Path.{_≡_}
+use mathlib.Core.List.{List}
+use Prim.Native.Nat.{ℕ}
+use Rattle.meaning.specs.Doors.{readSheet}
+use Rattle.theory.specs.Determined.{only}
+use Rattle.accepted.specs.declared.Accepted.{Accepted}
+use Rattle.accepted.specs.Answers.{asAccepted}
+
+pub accept-only : (s : List ℕ) (r q : Accepted) → r ≡ asAccepted (readSheet s) → q ≡ asAccepted (readSheet s) → r ≡ q
+accept-only s r q = only

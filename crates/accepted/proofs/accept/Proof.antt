@@ -1,0 +1,55 @@
+-- `accept` answers the sheet that the meaning accepts, with its testing order and its plan; CYCLE where there is no order.
+-- Assumes nothing.
+use borrow.Author.Needs.{needs}
+use Rattle.accepted.proofs.Laws.{accepting}
+use Rattle.accepted.proofs.accept.Statement.{statement}
+use Rattle.accepted.proofs.accept.Tie as tie
+
+read-sheet-requires : tie.Need-read-sheet-requires
+read-sheet-requires c κs = search (needs, accepting)
+
+refused-requires : tie.Need-refused-requires
+refused-requires c κs = search (needs, accepting)
+
+returns : tie.Need-returns
+returns c = search (needs, accepting)
+
+add-statuses : tie.Need-add-statuses
+add-statuses c = search (needs, accepting)
+
+slice-aggregate-testing-order : tie.Need-slice-aggregate-testing-order
+slice-aggregate-testing-order c = search (needs, accepting)
+
+testing-order-requires : tie.Need-testing-order-requires
+testing-order-requires c κs = search (needs, accepting)
+
+refused-requires-2 : tie.Need-refused-requires-2
+refused-requires-2 c κs = search (needs, accepting)
+
+returns-2 : tie.Need-returns-2
+returns-2 c = search (needs, accepting)
+
+mul-plan-rules : tie.Need-mul-plan-rules
+mul-plan-rules c = search (needs, accepting)
+
+plan-rules-requires : tie.Need-plan-rules-requires
+plan-rules-requires c κs = search (needs, accepting)
+
+returns-3 : tie.Need-returns-3
+returns-3 c = search (needs, accepting)
+
+pub accept-spec : {M : Type 1} → statement M
+accept-spec =
+    tie.close
+    (tie.spec
+    read-sheet-requires
+    refused-requires
+    returns
+    add-statuses
+    slice-aggregate-testing-order
+    testing-order-requires
+    refused-requires-2
+    returns-2
+    mul-plan-rules
+    plan-rules-requires
+    returns-3)

@@ -1,0 +1,21 @@
+-- A refused sheet is made of blank parts.
+-- Assumes nothing.
+use borrow.Author.Needs.{needs}
+use Rattle.accepted.proofs.Laws.{refused-is}
+use Rattle.accepted.proofs.refused.Statement.{statement}
+use Rattle.accepted.proofs.refused.Tie as tie
+
+no-heads-requires : tie.Need-no-heads-requires
+no-heads-requires c κs = search (needs, refused-is)
+
+no-rules-requires : tie.Need-no-rules-requires
+no-rules-requires c κs = search (needs, refused-is)
+
+plan-rules-requires : tie.Need-plan-rules-requires
+plan-rules-requires c κs = search (needs, refused-is)
+
+returns : tie.Need-returns
+returns c = search (needs, refused-is)
+
+pub refused-spec : {M : Type 1} → statement M
+refused-spec = tie.close (tie.spec no-heads-requires no-rules-requires plan-rules-requires returns)

@@ -1,0 +1,2 @@
+-- What the code answers for a sheet as a paper:
+pub mod Answers

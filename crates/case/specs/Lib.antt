@@ -1,0 +1,2 @@
+-- What the code answers for the three papers:
+pub mod Answers

@@ -1,0 +1,3 @@
+-- Laws of the functions, and for callers:
+pub mod Laws
+pub mod Callers

@@ -1,0 +1,2 @@
+-- What goes with a step, on tables:
+pub mod Tables

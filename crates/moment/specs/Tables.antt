@@ -1,0 +1,32 @@
+-- What goes with a step, on the tables of a sheet, a card and an event line.
+use Prim.Native.Nat.{ℕ, zero, suc}
+use mathlib.Core.Bool.{Bool, true, false, _||_, not, cond}
+use mathlib.Core.List.{List, [], _∷_}
+use lib.Dec.{eqb}
+use lib.ListN.{set}
+
+-- "the event's values put in": each at the place of its field
+unfoldable pub putCodes : List ℕ → List ℕ → List ℕ → List ℕ
+putCodes [] vs codes = codes
+putCodes (f ∷ fs) [] codes = codes
+putCodes (f ∷ fs) (v ∷ vs) codes = putCodes fs vs (set codes f v)
+
+-- the stage of a parent's code (0 for none, otherwise its place and 1 more) is marked
+abbrev pub markParent : List ℕ → ℕ → List ℕ
+markParent ps zero = ps
+markParent ps (suc p) = set ps p 1
+
+unfoldable pub markParents : List ℕ → List ℕ → List ℕ
+markParents ps [] = ps
+markParents ps (c ∷ cs) = markParents (markParent ps c) cs
+
+-- "stages that have no child stage and turned yes": the mark after, where it counts
+unfoldable pub taskMark : ℕ → ℕ → ℕ → ℕ
+taskMark parent before after = cond (not (eqb parent 0) || eqb before 2) 0 after
+
+-- of all statuses
+unfoldable pub taskMarks : List ℕ → List ℕ → List ℕ → List ℕ
+taskMarks [] bs cs = []
+taskMarks (p ∷ ps) [] cs = []
+taskMarks (p ∷ ps) (b ∷ bs) [] = []
+taskMarks (p ∷ ps) (b ∷ bs) (c ∷ cs) = taskMark p b c ∷ taskMarks ps bs cs

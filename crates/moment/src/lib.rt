@@ -1,0 +1,134 @@
+// What goes with a step: the event's values put in, the tasks started, and statuses as a pattern.
+ghost use mathlib.Core.Path.{_≡_};
+ghost use Prim.Native.Nat.{_≤_};
+ghost use mathlib.Core.Bool.{cond};
+ghost use lib.Dec.{eqb};
+ghost use lib.ListN.{take, set, replicate};
+ghost use Rattle.meaning.specs.Step.{pattern};
+ghost use Rattle.card.specs.Parts.{sideOf};
+ghost use Rattle.moment.specs.Tables.{putCodes, markParent, markParents, taskMark, taskMarks};
+use card::Happening;
+
+fn wide(x: u8) -> usize
+    ensures { λ r. ⌜ r ≡ x ⌝ }
+{
+    x as usize
+}
+
+fn set_value(values: [u64; 16], f: u8, v: u64) -> [u64; 16]
+    ensures { λ r. ⌜ r ≡ set values f v ⌝ }
+{
+    let at = wide(f);
+    let mut after = values;
+    if 16 <= at {
+        return after;
+    }
+    after[at] = v;
+    after
+}
+
+// The values with those that the event carries put in.
+pub fn put_in(values: [u64; 16], e: Happening) -> [u64; 16]
+    ensures { λ r. ⌜ r ≡ putCodes (take (e .count) (e .fields)) (e .values) values ⌝ }
+{
+    let fields = e.fields;
+    let puts = e.values;
+    let count = e.count;
+    let mut after = values;
+    let mut i = 0;
+    while i < count {
+        if 16 <= i {
+            return after;
+        }
+        let f = fields[i];
+        let v = puts[i];
+        let next = set_value(after, f, v);
+        after = next;
+        i += 1;
+    }
+    after
+}
+
+// 1 for a status that is yes.
+fn bit(mark: u8) -> u32
+    ensures { λ r. ⌜ r ≡ cond (eqb mark 2) 1 0 ⌝ }
+{
+    if mark == 2 {
+        return 1;
+    }
+    0
+}
+
+// The pattern of the first n statuses, the last of them first.
+pub fn pattern_of(marks: [u8; 32], n: usize) -> u32
+    requires { ⌜ n ≤ 32 ⌝ }
+    ensures { λ r. ⌜ r ≡ pattern (sideOf (take n marks)) ⌝ }
+{
+    let mut p: u32 = 0;
+    let mut i = n;
+    while 0 < i {
+        i -= 1;
+        p = p * 2 + bit(marks[i]);
+    }
+    p
+}
+
+// The stage that a code names is a parent.
+fn mark_parent(parents: [u8; 32], code: u8) -> [u8; 32]
+    ensures { λ r. ⌜ r ≡ markParent parents code ⌝ }
+{
+    let mut marked = parents;
+    if code == 0 {
+        return marked;
+    }
+    let at = wide(code) - 1;
+    if 32 <= at {
+        return marked;
+    }
+    marked[at] = 1;
+    marked
+}
+
+// Which stages have a child stage.
+fn mark_parents(under: [u8; 32], stages: usize) -> [u8; 32]
+    requires { ⌜ stages ≤ 32 ⌝ }
+    ensures { λ r. ⌜ r ≡ markParents (replicate 32 0) (take stages under) ⌝ }
+{
+    let mut parents = [0; 32];
+    let mut x = 0;
+    while x < stages {
+        let code = under[x];
+        let next = mark_parent(parents, code);
+        parents = next;
+        x += 1;
+    }
+    parents
+}
+
+// A stage that has no child stage and turned yes is a task started.
+fn task_mark(parent: u8, before: u8, after: u8) -> u8
+    ensures { λ r. ⌜ r ≡ taskMark parent before after ⌝ }
+{
+    if parent != 0 {
+        return 0;
+    }
+    if before == 2 {
+        return 0;
+    }
+    after
+}
+
+// The tasks started, as a pattern of stages.
+pub fn tasks_started(under: [u8; 32], stages: usize, before: [u8; 32], after: [u8; 32]) -> u32
+    requires { ⌜ stages ≤ 32 ⌝ }
+    ensures { λ r. ⌜ r ≡ pattern (sideOf (take stages (taskMarks (markParents (replicate 32 0) (take stages under)) before after))) ⌝ }
+{
+    let parents = mark_parents(under, stages);
+    let mut tasks = [0; 32];
+    let mut x = 0;
+    while x < stages {
+        tasks[x] = task_mark(parents[x], before[x], after[x]);
+        x += 1;
+    }
+    pattern_of(tasks, stages)
+}

@@ -1,0 +1,2 @@
+-- The step on a case's tables:
+pub mod Next
