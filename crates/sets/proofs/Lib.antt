@@ -1,0 +1,6 @@
+-- Laws of the functions, in return form:
+pub mod Laws
+-- Where a number goes in:
+pub mod Places
+-- What callers use of it:
+pub mod Callers
