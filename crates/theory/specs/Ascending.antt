@@ -77,7 +77,7 @@ insert-only v p (x ∷ l) h = go (placing v x) (insert-only v p l)
     go (equal e) ih = inr (rw (insert-equal v x l e) at h)
     go (higher g) ih = later (rw (insert-higher v x l g) at h) ih
 
-insert-up : (v : ℕ) (l : List ℕ) → Up l → Up (insert v l)
+pub insert-up : (v : ℕ) (l : List ℕ) → Up l → Up (insert v l)
 unfolding insert
 insert-up v [] u = (λ y h. absurd h, tt)
 insert-up v (x ∷ l) u = go (placing v x) (insert-up v l (u .1))
