@@ -1,0 +1,4 @@
+-- Laws of the functions, in return form:
+pub mod Laws
+-- What callers use of it:
+pub mod Callers
