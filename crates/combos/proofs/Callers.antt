@@ -1,43 +1,16 @@
 -- What callers use: the numbers below the product give all choices, in the meaning's order.
 use Prim.Native.Nat.{ℕ, zero, suc, _+_, _*_, _/_, _%_, _≤_, _<_}
 use mathlib.Core.Path.{_≡_, refl, sym, _∙_, ap, ap₂}
-use mathlib.Core.List.{List, [], _∷_, _++_, map, map-append, append-assoc}
-use mathlib.Core.Logic.{inl, inr}
+use mathlib.Core.List.{List, [], _∷_, _++_, map, map-append, map-map, append-assoc}
 use native.Mathlib.Nat.{add-zero, zero-mul, mul-zero, suc-mul, mul-suc, mul-add-div, mul-add-mod-self-left, div-eq-of-lt, mod-eq-of-lt}
 use native.Mathlib.Omega.{arith}
 use lib.ListN.{length, getD, replicate, length-append}
 use lib.Seq.{take-append-seam, drop-append-seam}
-use Rattle.meaning.specs.Text.{In, joined, from}
+use Rattle.meaning.specs.Text.{joined, from}
 use Rattle.meaning.specs.Number.{Value}
 use Rattle.meaning.specs.Outlook.{choices}
-use Rattle.theory.specs.Lists.{from-in, joined-one}
+use Rattle.theory.specs.Lists.{from-in, joined-one, map-same, joined-same, joined-map, map-joined}
 use Rattle.combos.specs.Numbered.{split, sum, product, choice}
-
--- LISTS
-
-module _ {A B : Type 0} where
-  map-same : (f g : A → B) (xs : List A) → ((x : A) → In x xs → f x ≡ g x) → map f xs ≡ map g xs
-  map-same f g [] h = refl
-  map-same f g (x ∷ xs) h = ap₂ (λ a b. a ∷ b) (h x (inl refl)) (map-same f g xs (λ y i. h y (inr i)))
-
-  joined-map : {C : Type 0} (f : A → B) (g : B → List C) (xs : List A) → joined g (map f xs) ≡ joined (λ x. g (f x)) xs
-  unfolding joined
-  joined-map f g [] = refl
-  joined-map f g (x ∷ xs) = ap (λ l. g (f x) ++ l) (joined-map f g xs)
-
-  map-joined : {C : Type 0} (f : B → C) (g : A → List B) (xs : List A) → map f (joined g xs) ≡ joined (λ x. map f (g x)) xs
-  unfolding joined
-  map-joined f g [] = refl
-  map-joined f g (x ∷ xs) = map-append f (g x) (joined g xs) ∙ ap (λ l. map f (g x) ++ l) (map-joined f g xs)
-
-  joined-same : (f g : A → List B) (xs : List A) → ((x : A) → f x ≡ g x) → joined f xs ≡ joined g xs
-  unfolding joined
-  joined-same f g [] h = refl
-  joined-same f g (x ∷ xs) h = ap₂ (λ a b. a ++ b) (h x) (joined-same f g xs h)
-
-map-map : {A B C : Type 0} (g : B → C) (f : A → B) (xs : List A) → map g (map f xs) ≡ map (λ x. g (f x)) xs
-map-map g f [] = refl
-map-map g f (x ∷ xs) = ap (λ l. g (f x) ∷ l) (map-map g f xs)
 
 -- numbers one after another
 from-both : (a n m : ℕ) → from a (n + m) ≡ from a n ++ from (a + n) m
@@ -116,9 +89,9 @@ picks-coded : (code : Value → ℕ) (ts : List (List Value)) → picks (map (ma
 unfolding choices
 picks-coded code [] = refl
 picks-coded code (t ∷ ts) =
-    joined-map code (λ v. map (λ w. v ∷ w) (picks (map (map code) ts))) t
+    joined-map (λ v. map (λ w. v ∷ w) (picks (map (map code) ts))) code t
     ∙ joined-same (λ x. map (λ w. code x ∷ w) (picks (map (map code) ts))) (λ x. map (map code) (map (λ w. x ∷ w) (choices ts))) t
-    (λ x. ap (map (λ w. code x ∷ w)) (picks-coded code ts) ∙ map-map (λ w. code x ∷ w) (map code) (choices ts) ∙ sym (map-map (map code) (λ w. x ∷ w) (choices ts)))
+    (λ x i. ap (map (λ w. code x ∷ w)) (picks-coded code ts) ∙ map-map (λ w. code x ∷ w) (map code) (choices ts) ∙ sym (map-map (map code) (λ w. x ∷ w) (choices ts)))
     ∙ sym (map-joined (map code) (λ v. map (λ w. v ∷ w) (choices ts)) t)
 
 -- with lists of one number behind
@@ -131,7 +104,7 @@ module _ (n d : ℕ) where
   picks-filled [] = picks-single n
   picks-filled (r ∷ rs) =
       joined-same (λ v. map (λ w. v ∷ w) (picks (rs ++ replicate n (d ∷ [])))) (λ v. map (λ w. w ++ replicate n d) (map (λ w. v ∷ w) (picks rs))) r
-      (λ v. ap (map (λ w. v ∷ w)) (picks-filled rs) ∙ map-map (λ w. v ∷ w) (λ w. w ++ replicate n d) (picks rs) ∙ sym (map-map (λ w. w ++ replicate n d) (λ w. v ∷ w) (picks rs)))
+      (λ v i. ap (map (λ w. v ∷ w)) (picks-filled rs) ∙ map-map (λ w. v ∷ w) (λ w. w ++ replicate n d) (picks rs) ∙ sym (map-map (λ w. w ++ replicate n d) (λ w. v ∷ w) (picks rs)))
       ∙ sym (map-joined (λ w. w ++ replicate n d) (λ v. map (λ w. v ∷ w) (picks rs)) r)
 
   -- the numbers below the product give the meaning's choices, one after another

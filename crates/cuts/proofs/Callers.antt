@@ -1,9 +1,8 @@
 -- What callers use: the codes of a field's cuts, from the words of a sheet's conditions, are those of the sheet's cuts; and how many they are.
 use Prim.Native.Nat.{ℕ, zero, suc, _+_, _-_, _*_, _/_, _%_, _≤_, _<_}
-use mathlib.Core.Path.{_≡_, refl, sym, _∙_, ap, ap₂}
+use mathlib.Core.Path.{_≡_, refl, sym, _∙_, ap}
 use mathlib.Core.Bool.{Bool, true, false, not, cond, _&&_, Bool·beq}
-use mathlib.Core.List.{List, [], _∷_, _++_, map, map-append, append-nil}
-use mathlib.Core.Logic.{inl, inr}
+use mathlib.Core.List.{List, [], _∷_, _++_, map, append-nil}
 use mathlib.Core.Option.{Option, none, some}
 use native.Mathlib.Omega.{arith}
 use native.Mathlib.Decide.{decLt, decLe}
@@ -15,7 +14,7 @@ use Rattle.meaning.specs.Number.{limit}
 use Rattle.meaning.specs.Condition.{Operator, below, atMost, equal, atLeast, above, Comparison, Leaf, Cond, answers, leavesC}
 use Rattle.meaning.specs.Sheet.{Sheet, Rule, leavesOf, leaves}
 use Rattle.meaning.specs.Outlook.{insert, ascending, compares, comparisons, cutsAt, cuts}
-use Rattle.theory.specs.Lists.{joined-both, joined-one}
+use Rattle.theory.specs.Lists.{joined-one, joined-same, map-joined, joined-twice}
 use Rattle.theory.specs.Conditions.{LeafIn}
 use Rattle.theory.specs.Ascending.{Placing, lower, higher, placing, insert-lower, insert-equal, insert-higher}
 use Rattle.verdict.specs.Flat.{word, bit, comparisonWord, leafWord, words}
@@ -26,23 +25,7 @@ use Rattle.sets.proofs.Callers.{ascending-few}
 use Rattle.cuts.specs.Codes.{cutCode, wordCuts, cutCodes}
 use Rattle.cuts.proofs.Laws.{word-few}
 
--- LISTS OF LISTS
-
-module _ {A B C : Type 0} where
-  joined-map : (g : B → C) (f : A → List B) (xs : List A) → joined (λ x. map g (f x)) xs ≡ map g (joined f xs)
-  unfolding joined
-  joined-map g f [] = refl
-  joined-map g f (x ∷ xs) = ap (λ l. map g (f x) ++ l) (joined-map g f xs) ∙ sym (map-append g (f x) (joined f xs))
-
-  joined-twice : (g : B → List C) (f : A → List B) (xs : List A) → joined (λ x. joined g (f x)) xs ≡ joined g (joined f xs)
-  unfolding joined
-  joined-twice g f [] = refl
-  joined-twice g f (x ∷ xs) = ap (λ l. joined g (f x) ++ l) (joined-twice g f xs) ∙ sym (joined-both g (f x) (joined f xs))
-
-joined-same : {A B : Type 0} (f g : A → List B) (xs : List A) → ((x : A) → In x xs → f x ≡ g x) → joined f xs ≡ joined g xs
-unfolding joined
-joined-same f g [] h = refl
-joined-same f g (x ∷ xs) h = ap₂ (λ a b. a ++ b) (h x (inl refl)) (joined-same f g xs (λ y i. h y (inr i)))
+-- CODES
 
 -- order is kept where all go up by one
 insert-next : (v : ℕ) (l : List ℕ) → insert (suc v) (map suc l) ≡ map suc (insert v l)
@@ -216,7 +199,7 @@ module _ (f : ℕ) where
   pub condition-cuts : (c : Cond) → Fits c → joined (wordCuts f) (words c) ≡ map suc (joined (leafCuts f) (leavesC c))
   unfolding wordCuts
   condition-cuts c h =
-      words-leaves (wordCuts f) (λ x. map suc (leafCuts f x)) join-cuts c (λ neg x i. leaf-cuts neg x (h .placed x i)) ∙ joined-map suc (leafCuts f) (leavesC c)
+      words-leaves (wordCuts f) (λ x. map suc (leafCuts f x)) join-cuts c (λ neg x i. leaf-cuts neg x (h .placed x i)) ∙ sym (map-joined suc (leafCuts f) (leavesC c))
     where
       join-cuts : (k : Bool) → wordCuts f (bit k) ≡ []
       join-cuts true = refl
@@ -233,10 +216,10 @@ module _ (f : ℕ) where
         → cutCodes f (joined (λ r. wordsIn (r .condition)) (sh .rules)) ≡ map suc (cuts sh f)
     unfolding cutCodes cuts comparisons leaves
     sheet-cuts sh fits =
-        ap ascending (sym (joined-twice (wordCuts f) (λ (r : Rule). wordsIn (r .condition)) (sh .rules))
+        ap ascending (joined-twice (wordCuts f) (λ (r : Rule). wordsIn (r .condition)) (sh .rules)
         ∙ joined-same _ (λ r. map suc (joined (leafCuts f) (leavesOf (r .condition)))) (sh .rules) (λ r i. rule-cuts (r .condition) (fits r i))
-        ∙ joined-map suc (λ (r : Rule). joined (leafCuts f) (leavesOf (r .condition))) (sh .rules)
-        ∙ ap (map suc) (joined-twice (leafCuts f) (λ (r : Rule). leavesOf (r .condition)) (sh .rules) ∙ joined-twice near (compares f) (leaves (sh .rules))))
+        ∙ sym (map-joined suc (λ (r : Rule). joined (leafCuts f) (leavesOf (r .condition))) (sh .rules))
+        ∙ ap (map suc) (sym (joined-twice near (compares f) (leaves (sh .rules)) ∙ joined-twice (leafCuts f) (λ (r : Rule). leavesOf (r .condition)) (sh .rules))))
         ∙ ascending-next (joined near (joined (compares f) (leaves (sh .rules))))
 
 -- how many codes there can be: two of a word
