@@ -10,7 +10,7 @@ use Rattle.meaning.specs.Text.{joined, from}
 use Rattle.meaning.specs.Number.{Value}
 use Rattle.meaning.specs.Outlook.{choices}
 use Rattle.theory.specs.Lists.{from-in, joined-one, map-same, joined-same, joined-map, map-joined}
-use Rattle.combos.specs.Numbered.{split, sum, product, choice}
+use Rattle.combos.specs.Numbered.{split, sum, product, size, strung, choice}
 
 -- numbers one after another
 from-both : (a n m : ℕ) → from a (n + m) ≡ from a n ++ from (a + n) m
@@ -32,10 +32,6 @@ from-later a b (suc n) =
     ap (λ l. (a + b) ∷ l) (ap (λ k. from k n) z ∙ from-later a (suc b) n)
 
 -- THE CHOICES
-
--- how many there are
-abbrev pub size : List (List ℕ) → ℕ
-size rs = product (map length rs)
 
 -- the meaning's choices, of numbers
 abbrev picks : List (List ℕ) → List (List ℕ)
@@ -115,17 +111,13 @@ module _ (n d : ℕ) where
 
 -- FLAT LISTS
 
--- the lists one after another
-abbrev pub flat : List (List ℕ) → List ℕ
-flat rs = joined (λ r. r) rs
-
 -- what was put together is taken apart again
-pub split-flat : (rs : List (List ℕ)) (rest : List ℕ) → split (map length rs) (flat rs ++ rest) ≡ rs
+pub split-strung : (rs : List (List ℕ)) (rest : List ℕ) → split (map length rs) (strung rs ++ rest) ≡ rs
 unfolding split joined
-split-flat [] rest = refl
-split-flat (r ∷ rs) rest = rw (append-assoc r (flat rs) rest, take-append-seam r (flat rs ++ rest), drop-append-seam r (flat rs ++ rest)) (ap (λ l. r ∷ l) (split-flat rs rest))
+split-strung [] rest = refl
+split-strung (r ∷ rs) rest = rw (append-assoc r (strung rs) rest, take-append-seam r (strung rs ++ rest), drop-append-seam r (strung rs ++ rest)) (ap (λ l. r ∷ l) (split-strung rs rest))
 
-pub flat-length : (rs : List (List ℕ)) → sum (map length rs) ≡ length (flat rs)
+pub strung-length : (rs : List (List ℕ)) → sum (map length rs) ≡ length (strung rs)
 unfolding sum joined
-flat-length [] = refl
-flat-length (r ∷ rs) = ap (λ n. length r + n) (flat-length rs) ∙ sym (length-append r (flat rs))
+strung-length [] = refl
+strung-length (r ∷ rs) = ap (λ n. length r + n) (strung-length rs) ∙ sym (length-append r (strung rs))

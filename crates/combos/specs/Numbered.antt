@@ -2,6 +2,7 @@
 use Prim.Native.Nat.{ℕ, _+_, _*_, _/_, _%_}
 use mathlib.Core.List.{List, [], _∷_, map}
 use lib.ListN.{length, getD, take, drop}
+use Rattle.meaning.specs.Text.{joined}
 
 -- a flat list, taken apart into lists of these lengths
 unfoldable pub split : List ℕ → List ℕ → List (List ℕ)
@@ -17,7 +18,14 @@ unfoldable pub product : List ℕ → ℕ
 product [] = 1
 product (n ∷ ns) = n * product ns
 
+abbrev pub size : List (List ℕ) → ℕ
+size rs = product (map length rs)
+
+-- the lists, one after another
+abbrev pub strung : List (List ℕ) → List ℕ
+strung rs = joined (λ r. r) rs
+
 -- the choice with the number x
 unfoldable pub choice : List (List ℕ) → ℕ → List ℕ
 choice [] x = []
-choice (r ∷ rs) x = getD r (x / product (map length rs)) 0 ∷ choice rs (x % product (map length rs))
+choice (r ∷ rs) x = getD r (x / size rs) 0 ∷ choice rs (x % size rs)

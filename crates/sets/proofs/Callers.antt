@@ -64,11 +64,3 @@ pub ascending-few : (l : List ℕ) → length (ascending l) ≤ length l
 unfolding ascending
 ascending-few [] = omega arith
 ascending-few (x ∷ l) = omega (arith, ascending-few l, insert-grows x (ascending l) .1)
-
--- two answers of one contract are equal
-module _ {l b a c : List ℕ} {n m : ℕ} (f : Front l n b a) (g : Front l m b c) where
-  pub front-count-only : n ≡ m
-  front-count-only = f .count ∙ sym (g .count)
-
-  pub front-list-only : a ≡ c
-  front-list-only = f .list ∙ ap (λ k. l ++ drop k b) front-count-only ∙ sym (g .list)

@@ -4,3 +4,5 @@ pub mod Laws
 pub mod Places
 -- What callers use of it:
 pub mod Callers
+-- That no second answer fits the contracts:
+pub mod Only
