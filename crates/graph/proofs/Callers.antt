@@ -12,23 +12,23 @@ use lib.ListN.{length, getD, take, drop, replicate, List·getD-append, List·get
 use lib.Seq.{take-at, drop-at, drop-drop}
 use borrow.Author.Tests.{eq-eqb, ne-eqb, lt-ltb, le-ltb, le-leb}
 use Rattle.meaning.specs.Text.{keep, joined, isIn}
-use Rattle.meaning.specs.Condition.{Operator, below, atMost, equal, atLeast, above, Leaf, Cond, And, Item, leavesC, leavesA, leavesI}
+use Rattle.meaning.specs.Condition.{Operator, below, atMost, equal, atLeast, above, Leaf, Cond}
 use Rattle.meaning.specs.Sheet as M
 use Rattle.meaning.specs.Sheet.{Sheet, Status, Sign, plus, minus, statuses, stageOver, leavesOf}
 use Rattle.meaning.specs.Graph.{edge, orderFor}
 use Rattle.meaning.specs.Dependency.{up, down, both, nodes, node, consequent, closing, impliedFrom, allRules, fromTrigger, fromLeaf, fromHome, sources, rulesFor, predecessors, testingOrder}
-use Rattle.theory.specs.Lists.{in-left, in-right}
 use Rattle.theory.specs.Conditions.{LeafIn, LeavesIn}
 use Rattle.theory.specs.Formed.{Each, RuleIn, Well}
 use Rattle.tables.specs.Heads.{padded, underCode}
-use Rattle.verdict.specs.Flat.{word, bit, comparisonWord, leafWord, join, wordsC, wordsA, wordsI, words}
+use Rattle.verdict.specs.Flat.{word, bit, comparisonWord, leafWord}
+use Rattle.verdict.proofs.Leaves.{words-leaves}
 use Rattle.rules.specs.declared.Rules.{Rules}
 use Rattle.rules.specs.Answers.{isPlus, asTrigger, wordsOf, asRule, asRows, allWords, asRules, noRule}
 use Rattle.order.specs.declared.Sorting.{Sorting}
 use Rattle.order.specs.Answers.{asSorting}
 use Rattle.order.proofs.Callers.{sort-none, sort-some, sort-below}
 use Rattle.graph.specs.Edges.{nodeOf, triggerNodes, wordNodes, overNodes, ruleNodes, parentNode, closingNodes, tableInto}
-use Rattle.graph.proofs.Laws.{append-none, joined-both, joined-one, keep-both, keep-one}
+use Rattle.graph.proofs.Laws.{append-none, keep-both, keep-one}
 
 -- THE WORDS OF A CONDITION NAME THE STATUSES OF ITS LEAVES
 
@@ -72,20 +72,9 @@ comparison-word neg f atLeast k = low-word (not neg) f (suc k)
 comparison-word neg f above k = low-word (not neg) f (suc (suc k))
 
 -- a joining word
-join-word : (joins k : Bool) → joined wordNodes (join joins (bit k)) ≡ []
-unfolding joined
-join-word false k = refl
-join-word true false = refl
-join-word true true = refl
-
-words-last : (xs : List ℕ) (joins k : Bool) → joined wordNodes (xs ++ join joins (bit k)) ≡ joined wordNodes xs
-words-last xs joins k =
-    joined-both wordNodes xs (join joins (bit k)) ∙ ap (λ l. joined wordNodes xs ++ l) (join-word joins k) ∙ append-none (joined wordNodes xs)
-
-words-more : (xs ys : List ℕ) (joins k : Bool) → joined wordNodes (xs ++ (join joins (bit k) ++ ys)) ≡ joined wordNodes xs ++ joined wordNodes ys
-words-more xs ys joins k =
-    joined-both wordNodes xs (join joins (bit k) ++ ys)
-    ∙ ap (λ l. joined wordNodes xs ++ l) (joined-both wordNodes (join joins (bit k)) ys ∙ ap (λ l. l ++ joined wordNodes ys) (join-word joins k))
+join-word : (k : Bool) → wordNodes (bit k) ≡ []
+join-word true = refl
+join-word false = refl
 
 module _ (n m : ℕ) (few : n ≤ 32) where
   leaf-word : (neg : Bool) (x : Leaf) → LeafIn n m x → wordNodes (leafWord neg x) ≡ fromLeaf x
@@ -93,33 +82,11 @@ module _ (n m : ℕ) (few : n ≤ 32) where
   leaf-word neg (Leaf.status x) h = status-word neg x (omega arith)
   leaf-word neg (Leaf.compare c) h = comparison-word neg (c .field) (c .operator) (c .number)
 
-  mutual
-    unfolding wordsC wordsA wordsI leavesC leavesA leavesI
-
-    cond-words : (neg joins : Bool) (c : Cond) → LeavesIn n m (leavesC c) → joined wordNodes (wordsC neg joins c) ≡ joined fromLeaf (leavesC c)
-    cond-words neg joins (Cond.only a) h = words-last (wordsA neg false a) joins (not neg) ∙ and-words neg false a h
-    cond-words neg joins (Cond.or a c) h =
-        words-more (wordsA neg false a) (wordsC neg true c) joins (not neg)
-        ∙ ap₂ (λ x y. x ++ y) (and-words neg false a (λ x i. h x (in-left x (leavesA a) (leavesC c) i))) (cond-words neg true c (λ x i. h x (in-right x (leavesA a) (leavesC c) i)))
-        ∙ sym (joined-both fromLeaf (leavesA a) (leavesC c))
-
-    and-words : (neg joins : Bool) (a : And) → LeavesIn n m (leavesA a) → joined wordNodes (wordsA neg joins a) ≡ joined fromLeaf (leavesA a)
-    and-words neg joins (And.just i) h = words-last (wordsI neg i) joins neg ∙ item-words neg i h
-    and-words neg joins (And.and i a) h =
-        words-more (wordsI neg i) (wordsA neg true a) joins neg
-        ∙ ap₂ (λ x y. x ++ y) (item-words neg i (λ x j. h x (in-left x (leavesI i) (leavesA a) j))) (and-words neg true a (λ x j. h x (in-right x (leavesI i) (leavesA a) j)))
-        ∙ sym (joined-both fromLeaf (leavesI i) (leavesA a))
-
-    item-words : (neg : Bool) (i : Item) → LeavesIn n m (leavesI i) → joined wordNodes (wordsI neg i) ≡ joined fromLeaf (leavesI i)
-    item-words neg (Item.leaf x) h = joined-one wordNodes (leafWord neg x) ∙ leaf-word neg x (h x (inl refl)) ∙ sym (joined-one fromLeaf x)
-    item-words neg (Item.neg i) h = item-words (not neg) i h
-    item-words neg (Item.group c) h = cond-words neg false c h
-
   -- of a rule's condition, if it has one
   pub condition-nodes : (c : Option Cond) → LeavesIn n m (leavesOf c) → joined wordNodes (wordsOf c) ≡ joined fromLeaf (leavesOf c)
-  unfolding wordsOf leavesOf words joined
+  unfolding wordsOf leavesOf joined
   condition-nodes none h = refl
-  condition-nodes (some c) h = cond-words false false c h
+  condition-nodes (some c) h = words-leaves wordNodes fromLeaf join-word c (λ neg x i. leaf-word neg x (h x i))
 
 -- A RULE'S ROW GIVES ITS EDGES: its trigger, its home and its node, case by case
 

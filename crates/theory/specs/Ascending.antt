@@ -22,7 +22,7 @@ pub data Placing (v x : ℕ) : Type 0 where
   equal : v ≡ x → Placing v x
   higher : x < v → Placing v x
 
-placing : (v x : ℕ) → Placing v x
+pub placing : (v x : ℕ) → Placing v x
 placing v x = go (decLt v x) (ℕ-discrete v x)
   where
     go : Dec (v < x) → Dec (v ≡ x) → Placing v x
@@ -30,15 +30,15 @@ placing v x = go (decLt v x) (ℕ-discrete v x)
     go (no h) (yes e) = equal e
     go (no h) (no e) = higher (omega arith)
 
-insert-lower : (v x : ℕ) (l : List ℕ) → v < x → insert v (x ∷ l) ≡ v ∷ x ∷ l
+pub insert-lower : (v x : ℕ) (l : List ℕ) → v < x → insert v (x ∷ l) ≡ v ∷ x ∷ l
 unfolding insert
 insert-lower v x l h = rw (lt-ltb v x h, insert)
 
-insert-equal : (v x : ℕ) (l : List ℕ) → v ≡ x → insert v (x ∷ l) ≡ x ∷ l
+pub insert-equal : (v x : ℕ) (l : List ℕ) → v ≡ x → insert v (x ∷ l) ≡ x ∷ l
 unfolding insert
 insert-equal v x l e = rw (le-ltb v x (omega arith), insert) (rw (eq-eqb v x e))
 
-insert-higher : (v x : ℕ) (l : List ℕ) → x < v → insert v (x ∷ l) ≡ x ∷ insert v l
+pub insert-higher : (v x : ℕ) (l : List ℕ) → x < v → insert v (x ∷ l) ≡ x ∷ insert v l
 unfolding insert
 insert-higher v x l h = rw (le-ltb v x (omega arith), insert) (rw (ne-eqb v x (λ e. omega arith)))
 
@@ -77,7 +77,7 @@ insert-only v p (x ∷ l) h = go (placing v x) (insert-only v p l)
     go (equal e) ih = inr (rw (insert-equal v x l e) at h)
     go (higher g) ih = later (rw (insert-higher v x l g) at h) ih
 
-insert-up : (v : ℕ) (l : List ℕ) → Up l → Up (insert v l)
+pub insert-up : (v : ℕ) (l : List ℕ) → Up l → Up (insert v l)
 unfolding insert
 insert-up v [] u = (λ y h. absurd h, tt)
 insert-up v (x ∷ l) u = go (placing v x) (insert-up v l (u .1))

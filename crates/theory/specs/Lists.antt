@@ -2,7 +2,7 @@
 use Prim.Native.Nat.{ℕ, zero, suc, _+_, _≤_, _<_}
 use mathlib.Core.Path.{_≡_, refl, sym, _∙_, ap, ap₂, subst}
 use mathlib.Core.Bool.{Bool, true, false, not, _||_, true≢false, false≢true}
-use mathlib.Core.List.{List, [], _∷_, _++_, map}
+use mathlib.Core.List.{List, [], _∷_, _++_, map, map-append, append-assoc, append-nil}
 use mathlib.Core.Logic.{_⊎_, inl, inr, ⊎-elim}
 use native.Mathlib.Omega.{arith}
 use native.Mathlib.Decide.{ℕ-discrete}
@@ -49,6 +49,43 @@ module _ {A B : Type 0} where
   joined-in f b [] h = absurd h
   joined-in f b (x ∷ xs) h =
       ⊎-elim (λ k. (x, inl refl, k)) (λ k. let (a, i, j) = joined-in f b xs k in (a, inr i, j)) (in-cases b (f x) (joined f xs) h)
+
+  -- of two lists, and of one member
+  pub joined-both : (f : A → List B) (xs ys : List A) → joined f (xs ++ ys) ≡ joined f xs ++ joined f ys
+  unfolding joined
+  joined-both f [] ys = refl
+  joined-both f (x ∷ xs) ys = ap (λ l. f x ++ l) (joined-both f xs ys) ∙ sym (append-assoc (f x) (joined f xs) (joined f ys))
+
+  pub joined-one : (f : A → List B) (x : A) → joined f (x ∷ []) ≡ f x
+  unfolding joined
+  joined-one f x = append-nil (f x)
+
+  -- functions that agree on the members
+  pub map-same : (f g : A → B) (xs : List A) → ((x : A) → In x xs → f x ≡ g x) → map f xs ≡ map g xs
+  map-same f g [] h = refl
+  map-same f g (x ∷ xs) h = ap₂ (λ a l. a ∷ l) (h x (inl refl)) (map-same f g xs (λ y i. h y (inr i)))
+
+  pub joined-same : (f g : A → List B) (xs : List A) → ((x : A) → In x xs → f x ≡ g x) → joined f xs ≡ joined g xs
+  unfolding joined
+  joined-same f g [] h = refl
+  joined-same f g (x ∷ xs) h = ap₂ (λ a b. a ++ b) (h x (inl refl)) (joined-same f g xs (λ y i. h y (inr i)))
+
+-- mapped and joined, joined and mapped, joined twice
+module _ {A B C : Type 0} where
+  pub joined-map : (g : B → List C) (f : A → B) (xs : List A) → joined g (map f xs) ≡ joined (λ x. g (f x)) xs
+  unfolding joined
+  joined-map g f [] = refl
+  joined-map g f (x ∷ xs) = ap (λ l. g (f x) ++ l) (joined-map g f xs)
+
+  pub map-joined : (g : B → C) (f : A → List B) (xs : List A) → map g (joined f xs) ≡ joined (λ x. map g (f x)) xs
+  unfolding joined
+  map-joined g f [] = refl
+  map-joined g f (x ∷ xs) = map-append g (f x) (joined f xs) ∙ ap (λ l. map g (f x) ++ l) (map-joined g f xs)
+
+  pub joined-twice : (g : B → List C) (f : A → List B) (xs : List A) → joined g (joined f xs) ≡ joined (λ x. joined g (f x)) xs
+  unfolding joined
+  joined-twice g f [] = refl
+  joined-twice g f (x ∷ xs) = joined-both g (f x) (joined f xs) ∙ ap (λ l. joined g (f x) ++ l) (joined-twice g f xs)
 
 -- the members that pass a test, and whether some member does
 module _ {A : Type 0} (p : A → Bool) where

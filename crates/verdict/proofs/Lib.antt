@@ -6,5 +6,6 @@ pub mod Value
 -- How long the flat form is, and that whatever is read as a condition fits:
 pub mod Size
 pub mod Readable
--- What callers use of it:
+-- What callers use of it: what its words say, what it answers:
+pub mod Leaves
 pub mod Callers

@@ -84,7 +84,7 @@ bit-small true = lit≤ tt
 -- WORDS TAKEN APART
 
 module _ (kind i n : ℕ) (hk : kind < 8) where
-  kind-of : word kind i n % 8 ≡ kind
+  pub kind-of : word kind i n % 8 ≡ kind
   unfolding word
   kind-of = omega arith
 
@@ -96,11 +96,11 @@ module _ (kind i n : ℕ) (hk : kind < 8) where
   unfolding word
   status-of h = omega arith
 
-  field-of : i < 16 → word kind i n / 8 % 16 ≡ i
+  pub field-of : i < 16 → word kind i n / 8 % 16 ≡ i
   unfolding word
   field-of h = omega arith
 
-  number-of : i < 16 → word kind i n / 256 ≡ n
+  pub number-of : i < 16 → word kind i n / 256 ≡ n
   unfolding word
   number-of h = omega arith
 

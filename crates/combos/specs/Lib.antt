@@ -1,0 +1,2 @@
+-- Choices by their numbers:
+pub mod Numbered

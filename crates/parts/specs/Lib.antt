@@ -1,0 +1,2 @@
+-- The values to be tried in each field:
+pub mod Tried

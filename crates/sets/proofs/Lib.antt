@@ -1,0 +1,8 @@
+-- Laws of the functions, in return form:
+pub mod Laws
+-- Where a number goes in:
+pub mod Places
+-- What callers use of it:
+pub mod Callers
+-- That no second answer fits the contracts:
+pub mod Only

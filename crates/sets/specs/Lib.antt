@@ -1,0 +1,2 @@
+-- Lists in the front of lent space:
+pub mod Front
