@@ -1,0 +1,2 @@
+-- The outlook on a case's tables:
+pub mod Patterns

@@ -1,0 +1,87 @@
+-- The outlook of a case that was read, on its tables: the pattern of a choice, the list of all, and what is returned.
+use Prim.Native.Nat.{ℕ, _+_, _*_, _≤_, _<_}
+use mathlib.Core.Path.{_≡_}
+use mathlib.Core.Bool.{Bool, true, false, cond}
+use mathlib.Core.List.{List, _++_, map}
+use lib.Dec.{leb, ltb}
+use lib.ListN.{length, getD, take, drop}
+use Rattle.meaning.specs.Text.{from}
+use Rattle.meaning.specs.Limits.{partLimit}
+use Rattle.meaning.specs.Step.{pattern}
+use Rattle.meaning.specs.Outlook.{ascending}
+use Rattle.tables.specs.Heads.{Sized}
+use Rattle.card.specs.Parts.{sideOf}
+use Rattle.plan.specs.declared.Plan.{Plan}
+use Rattle.step.specs.Run.{runOver}
+use Rattle.combos.specs.Numbered.{size, choice}
+use Rattle.parts.specs.Tried.{triedFrom}
+use Rattle.accepted.specs.declared.Accepted.{Accepted}
+use Rattle.case.specs.declared.Reply.{Reply}
+use Rattle.case.specs.Answers.{refusedReply}
+use Rattle.outlook.specs.declared.Listed.{Listed}
+use Rattle.outlook.specs.declared.Listed.the-variants.{Patterns, Many}
+
+-- what stays the same for all choices
+pub record Fixed : Type 0 where
+  pub plan : Plan
+  pub order : List ℕ
+  pub words : List ℕ
+  pub under : List ℕ
+  pub stages : ℕ
+  pub statuses : ℕ
+  pub event : ℕ
+  pub before : List ℕ
+
+-- the pattern of the step with these values
+unfoldable pub patternAt : Fixed → List ℕ → ℕ
+patternAt x values =
+    pattern (sideOf (take (x .statuses) (runOver
+    (record { words = x .words; under = x .under; stages = x .stages; event = x .event; values = values; before = x .before })
+    (x .plan)
+    (take (x .statuses * 2) (x .order)))))
+
+-- a sheet, an event, the values after it and the marks before
+module _ (a : Accepted) (event : ℕ) (values before : List ℕ) where
+  abbrev pub fixedOf : Fixed
+  fixedOf = record {
+    plan = a .plan;
+    order = a .order;
+    words = a .words;
+    under = a .heads .under;
+    stages = a .heads .stages;
+    statuses = a .heads .stages + a .heads .miles;
+    event = event;
+    before = before;
+  }
+
+  -- the values to be tried in each field
+  unfoldable pub triedOf : List (List ℕ)
+  triedOf = triedFrom (take (a .top) (a .words)) (a .heads .fields) 0 values
+
+  -- the patterns of all choices, ascending, each once
+  unfoldable pub listOf : List ℕ
+  listOf = ascending (map (λ x. patternAt fixedOf (choice triedOf x)) (from 0 (size triedOf)))
+
+  -- how many patterns there are, or MANY
+  unfoldable pub asListed : Listed
+  asListed = cond (ltb partLimit (size triedOf)) Many (Patterns (length listOf))
+
+  -- the list in an array of its own
+  unfoldable pub listSpace : List ℕ → List ℕ
+  listSpace was = cond (ltb partLimit (size triedOf)) was (listOf ++ drop (length listOf) was)
+
+  -- what is returned, where so much room is lent: MANY comes before ROOM
+  unfoldable pub replyFor : ℕ → Reply
+  replyFor room =
+      cond (ltb partLimit (size triedOf)) (refusedReply 10 0 0)
+      (cond (leb (length listOf) room) (record { number = 0; paper = 0; line = 0; count = length listOf; tasks = 0 }) (refusedReply 9 0 0))
+
+  -- and what the space then holds
+  unfoldable pub spaceFor : List ℕ → List ℕ
+  spaceFor lent = cond (ltb partLimit (size triedOf)) lent (cond (leb (length listOf) (length lent)) (listOf ++ drop (length listOf) lent) lent)
+
+-- what a caller sees to: tables, words and values within their limits
+pub record Ready (a : Accepted) (values : List ℕ) : Type 0 where
+  pub sized : Sized (a .heads)
+  pub few-words : a .top ≤ 1024
+  pub few-values : (f : ℕ) → f < 16 → getD values f 0 < 4294967296
