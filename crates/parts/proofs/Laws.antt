@@ -11,7 +11,7 @@ use lib.Dec.{ltb, eqb}
 use lib.ListN.{length, getD, set, take, drop, length-set, length-append, length-map, length-take, drop-of-length-le}
 use lib.Seq.{drop-cons, drop-append-add, set-at, length-take-le, append-snoc}
 use borrow.Author.Tests.{eq-eqb, ne-eqb, lt-ltb, le-ltb}
-use borrow.Rule.Slice.PartMut.{putMid}
+use borrow.Rule.Slice.PartMut.{midOf, putMid, same-len-mid}
 use Rattle.meaning.specs.Text.{joined}
 use Rattle.theory.specs.Lists.{joined-both, joined-one}
 use Rattle.sets.specs.Front.{Front}
@@ -69,11 +69,16 @@ module _ (ws : List ℕ) (fields f v : ℕ) where
         → (r : ℕ) → r ≡ n + 1 → Front (triedAt ws fields f v) r out (putMid 1 (length (set out 0 1) - 1) (set out 0 1) ys)
     field-missing h e n ys g r i = rw (tried-missing h e, i) (front-two out 1 (omega arith) g)
 
+-- the space keeps its length
+pub field-long : (out : List ℕ) (v : ℕ) (ys : List ℕ) → length ys ≡ length (midOf 1 (length (set out 0 v) - 1) (set out 0 v))
+    → length (putMid 1 (length (set out 0 v) - 1) (set out 0 v) ys) ≡ length out
+field-long out v ys e = same-len-mid 1 (length (set out 0 v) - 1) (set out 0 v) ys e ∙ length-set out 0 v
+
 -- how many cuts there can be
 pub cuts-most : (words : List ℕ) (top f : ℕ) {n : ℕ} {was is : List ℕ} → top ≤ length words → Front (cutCodes f (take top words)) n was is → n ≤ 2 * top
 cuts-most words top f h g = omega (arith, g .count, cut-codes-few f (take top words), length-take-le top words h)
 
-pub ruleset putting = (field-behind, field-known, field-missing)
+pub ruleset putting = (field-behind, field-known, field-missing, field-long)
 
 -- how many values a field can have
 pub field-few : (words : List ℕ) (top fields f v : ℕ) {n : ℕ} {was is : List ℕ} → top ≤ length words → top ≤ 1024 → Front (triedAt (take top words) fields f v) n was is → (1 ≤ n) × (n ≤ 2049)
