@@ -1,5 +1,5 @@
 -- What callers use: the numbers below the product give all choices, in the meaning's order.
-use Prim.Native.Nat.{ℕ, zero, suc, _+_, _*_, _/_, _%_, _≤_, _<_}
+use Prim.Native.Nat.{ℕ, zero, suc, _+_, _*_, _/_, _%_, _<_}
 use mathlib.Core.Path.{_≡_, refl, sym, _∙_, ap, ap₂}
 use mathlib.Core.List.{List, [], _∷_, _++_, map, map-append, map-map, append-assoc}
 use native.Mathlib.Nat.{add-zero, zero-mul, mul-zero, suc-mul, mul-suc, mul-add-div, mul-add-mod-self-left, div-eq-of-lt, mod-eq-of-lt}

@@ -1,5 +1,4 @@
 // The cuts of a field, from the words of conditions.
-ghost use mathlib.Core.Path.{_≡_};
 ghost use Prim.Native.Nat.{_+_, _*_, _≤_, _<_};
 ghost use lib.ListN.{length, take};
 ghost use Rattle.theory.specs.Ascending.{Up};

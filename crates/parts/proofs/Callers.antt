@@ -17,7 +17,7 @@ use Rattle.cuts.specs.Codes.{cutCodes}
 use Rattle.combos.specs.Numbered.{split, sum, product, size, strung}
 use Rattle.combos.proofs.Callers.{split-strung, strung-length}
 use Rattle.parts.specs.Tried.{triedAt, triedFrom, until, Filled}
-use Rattle.parts.proofs.Laws.{tried-behind, tried-known, tried-missing, tried-few, tried-pos, until-more}
+use Rattle.parts.proofs.Laws.{tried-behind, tried-known, tried-missing, tried-pos, until-more}
 
 -- THE MEANING'S LISTS
 

@@ -1,17 +1,17 @@
 -- What the functions add, in return form: the premises are what is known at a place, the conclusion is what is asked there.
 use Prim.Native.Nat.{ℕ, zero, suc, _+_, _-_, _*_, _≤_, _<_}
-use mathlib.Core.Path.{_≡_, refl, sym, _∙_, ap, ap₂, subst}
-use mathlib.Core.Bool.{Bool, true, false, cond, _&&_}
+use mathlib.Core.Path.{_≡_, refl, sym, _∙_, ap, subst}
+use mathlib.Core.Bool.{cond}
 use mathlib.Core.List.{List, [], _∷_, _++_, map, map-append, append-assoc, append-nil}
 use native.Mathlib.Nat.{one-mul, mul-one, mul-assoc, mul-suc, mul-comm, mul-le-mul, mul-le-mul-left, mul-pos}
 use native.Mathlib.Numerals.{add-one, one-add}
 use native.Mathlib.Omega.{arith}
 use native.Mathlib.Decide.{ℕ-discrete, decLt}
-use lib.Dec.{ltb, eqb}
-use lib.ListN.{length, getD, set, take, drop, length-set, length-append, length-map, length-take, drop-of-length-le}
-use lib.Seq.{drop-cons, drop-append-add, set-at, length-take-le, append-snoc}
+use lib.Dec.{ltb}
+use lib.ListN.{length, getD, set, take, drop, length-set, length-append, length-map, drop-of-length-le}
+use lib.Seq.{drop-cons, set-at, length-take-le, append-snoc}
 use borrow.Author.Tests.{eq-eqb, ne-eqb, lt-ltb, le-ltb}
-use borrow.Rule.Slice.PartMut.{putMid}
+use borrow.Rule.Slice.PartMut.{midOf, putMid, same-len-mid}
 use Rattle.meaning.specs.Text.{joined}
 use Rattle.theory.specs.Lists.{joined-both, joined-one}
 use Rattle.sets.specs.Front.{Front}
@@ -50,7 +50,7 @@ module _ (ws : List ℕ) (fields f v : ℕ) where
   tried-missing h e = rw (lt-ltb f fields h, eq-eqb v 0 e)
 
   -- at least one, and at most two for each word and one more
-  pub tried-few : (1 ≤ length (triedAt ws fields f v)) × (length (triedAt ws fields f v) ≤ 2 * length ws + 1)
+  tried-few : (1 ≤ length (triedAt ws fields f v)) × (length (triedAt ws fields f v) ≤ 2 * length ws + 1)
   tried-few = go (decLt f fields) (ℕ-discrete v 0)
     where
       go : Dec (f < fields) → Dec (v ≡ 0) → (1 ≤ length (triedAt ws fields f v)) × (length (triedAt ws fields f v) ≤ 2 * length ws + 1)
@@ -69,11 +69,16 @@ module _ (ws : List ℕ) (fields f v : ℕ) where
         → (r : ℕ) → r ≡ n + 1 → Front (triedAt ws fields f v) r out (putMid 1 (length (set out 0 1) - 1) (set out 0 1) ys)
     field-missing h e n ys g r i = rw (tried-missing h e, i) (front-two out 1 (omega arith) g)
 
+-- the space keeps its length
+pub field-long : (out : List ℕ) (v : ℕ) (ys : List ℕ) → length ys ≡ length (midOf 1 (length (set out 0 v) - 1) (set out 0 v))
+    → length (putMid 1 (length (set out 0 v) - 1) (set out 0 v) ys) ≡ length out
+field-long out v ys e = same-len-mid 1 (length (set out 0 v) - 1) (set out 0 v) ys e ∙ length-set out 0 v
+
 -- how many cuts there can be
 pub cuts-most : (words : List ℕ) (top f : ℕ) {n : ℕ} {was is : List ℕ} → top ≤ length words → Front (cutCodes f (take top words)) n was is → n ≤ 2 * top
 cuts-most words top f h g = omega (arith, g .count, cut-codes-few f (take top words), length-take-le top words h)
 
-pub ruleset putting = (field-behind, field-known, field-missing)
+pub ruleset putting = (field-behind, field-known, field-missing, field-long)
 
 -- how many values a field can have
 pub field-few : (words : List ℕ) (top fields f v : ℕ) {n : ℕ} {was is : List ℕ} → top ≤ length words → top ≤ 1024 → Front (triedAt (take top words) fields f v) n was is → (1 ≤ n) × (n ≤ 2049)

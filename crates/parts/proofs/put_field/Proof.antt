@@ -2,11 +2,8 @@
 -- Assumes nothing.
 use borrow.Author.Needs.{needs}
 use native.Mathlib.Omega.{arith}
-use Prim.Native.Nat.{_-_}
-use mathlib.Core.Path.{_∙_}
-use lib.ListN.{length, set, length-set, length-take, length-drop}
+use lib.ListN.{length-set, length-take, length-drop}
 use denote.Ref.{now}
-use borrow.Rule.Slice.PartMut.{same-len-mid}
 use Rattle.parts.proofs.Laws.{putting, cuts-most}
 use Rattle.parts.proofs.put_field.Statement.{statement}
 use Rattle.parts.proofs.put_field.Tie as tie
@@ -57,10 +54,7 @@ add-result c =
     omega arith
 
 same-length-3 : tie.Need-same-length-3
-same-length-3 c =
-    let was = now (c .before .before .before .before .before .before .before .before .args .out) in
-    let out = set was 0 1 in
-    same-len-mid 1 (length out - 1) out (c .before .before .field-cuts .last .1 .1 .1 .0) (c .before .before .field-cuts .kept .1 .1 .1 .0) ∙ length-set was 0 1
+same-length-3 c = search (needs, putting)
 
 returns-3 : tie.Need-returns-3
 returns-3 c = search (needs, putting)
