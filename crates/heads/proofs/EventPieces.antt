@@ -15,6 +15,7 @@ use Rattle.meaning.specs.Reading.{got, wrong, lineEnd, stands}
 use Rattle.meaning.specs.Name.{Name, newName, known}
 use Rattle.meaning.specs.ReadSheet.{carried}
 use Rattle.theory.specs.Built.{newName-built, known-built}
+use Rattle.theory.specs.Faults.{never-zero}
 use Rattle.text.specs.Packed.{packed, named}
 use Rattle.text.specs.declared.NamePiece.{NamePiece}
 use Rattle.text.specs.declared.NamePiece.the-variants as N
@@ -26,7 +27,7 @@ use Rattle.heads.specs.declared.EventName.{EventName}
 use Rattle.heads.specs.declared.EventName.the-variants as E
 use Rattle.heads.specs.Answers.{nameFault}
 use Rattle.heads.specs.Held.{NameIs, LeftWith, EventNameRead, FieldIs, FieldNot, FieldRead}
-use Rattle.heads.proofs.Sections.{not-zero, again-packed}
+use Rattle.heads.proofs.Sections.{again-packed}
 
 -- THE KEY AND THE NAME
 module _ (used : List Name) (e : ℕ) (t : List ℕ) (b : Bool) (tested : b ≡ begins (text "event=") t) where
@@ -48,7 +49,7 @@ module _ (used : List Name) (e : ℕ) (t : List ℕ) (b : Bool) (tested : b ≡ 
       event-misnamed k told f g =
           let w = new-name-wrong p used (drop 6 t) new k told in
           let z : f ≡ k = g ∙ rw told in
-          rw z (inr (inr ((not-zero (newName-built used) 0 (drop 6 t) k 0 (w 0)), stood, room, w)))
+          rw z (inr (inr ((never-zero (newName-built used) 0 (drop 6 t) k 0 (w 0)), stood, room, w)))
 
       module _ (w k : ℕ) (told : p ≡ N.Name w k) where
         fits : 6 + k ≤ length t
@@ -106,7 +107,7 @@ module _ (fields : List Name) (so : List ℕ) (m count : ℕ) (t : List ℕ) (p 
   field-unknown k told =
       let w = known-wrong p fields t read k told in
       rw told record {
-        number = (not-zero (known-built fields) 0 t k 0 (w 0));
+        number = (never-zero (known-built fields) 0 t k 0 (w 0));
         reads = λ l u space rest. carried-unknown fields so l u space (m - count) k (rw rest (w l));
       }
 

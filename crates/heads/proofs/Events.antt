@@ -15,6 +15,7 @@ use Rattle.meaning.specs.Reading.{Got, got, wrong, Reader, after, give, lineEnd
 use Rattle.meaning.specs.Name.{Name, newName, known}
 use Rattle.meaning.specs.Sheet.{Sheet, Event, eventNames, statusNames, statuses}
 use Rattle.meaning.specs.ReadSheet.{carried, eventRow}
+use Rattle.theory.specs.Lists.{joined-more}
 use Rattle.text.specs.Packed.{packed, named}
 use Rattle.tables.specs.declared.Heads.{Heads}
 use Rattle.tables.specs.Heads.{padded, asHeads, allNames}
@@ -49,11 +50,6 @@ module _ (w : Name) (fs : List ℕ) (l : ℕ) (t : List ℕ) where
   ending-here u e = rw e
 
 -- ONE MORE EVENT
-joined-more : (f : Event → List ℕ) (es : List Event) (e : Event) → joined f (es ++ (e ∷ [])) ≡ joined f es ++ f e
-unfolding joined
-joined-more f [] e = append-nil (f e)
-joined-more f (x ∷ es) e = rw (joined-more f es e) (sym (append-assoc (f x) (joined f es) (f e)))
-
 -- the tables where the fields carried are cs
 abbrev pub carrying : List ℕ → Heads → Heads
 carrying cs h =

@@ -15,6 +15,7 @@ use Rattle.meaning.specs.Name.{Name, newName}
 use Rattle.meaning.specs.Sheet.{Sheet, eventNames, statusNames, statuses}
 use Rattle.meaning.specs.ReadSheet.{fieldRow}
 use Rattle.theory.specs.Built.{newName-built}
+use Rattle.theory.specs.Faults.{never-zero}
 use Rattle.text.specs.Packed.{packed, named}
 use Rattle.text.specs.declared.NamePiece.{NamePiece}
 use Rattle.text.specs.declared.NamePiece.the-variants as N
@@ -28,7 +29,7 @@ use Rattle.heads.specs.Answers.{refusal, nameFault}
 use Rattle.heads.specs.Parts.{withFields, modelPart, fieldsPart}
 use Rattle.heads.specs.Held.{nextLine, Plain, NoFields, NoEvents, Reads}
 use Rattle.heads.proofs.Rows.{names-count, names-so-far}
-use Rattle.heads.proofs.Sections.{not-zero, line-not, again-packed, reads-wrong, reads-handed, Going, going-over, going-full, going-wrong, going-more}
+use Rattle.heads.proofs.Sections.{line-not, again-packed, reads-wrong, reads-handed, Going, going-over, going-full, going-wrong, going-more}
 
 -- a row, by what its pieces gave
 module _ (so : List Name) (l : ℕ) (t : List ℕ) where
@@ -157,7 +158,7 @@ module _ (s : List ℕ) (h : Heads) (at : ℕ) (i : Fields s h at) where
             let e = new-name-wrong p (i .going .so) (drop (at + 6) s) new k told in
             let z : f ≡ k = g ∙ rw told in
             reads-wrong k (2 + h .fields)
-            (not-zero (newName-built (i .going .so)) (nextLine here) (drop (at + 6) s) k (nextLine here) (e (nextLine here)))
+            (never-zero (newName-built (i .going .so)) (nextLine here) (drop (at + 6) s) k (nextLine here) (e (nextLine here)))
             (bad-row k (field-name (i .going .so) (nextLine here) (drop (at + 6) s) k (e (nextLine here)))) (rw (← z) q)
 
         module _ (w k : ℕ) (told : p ≡ N.Name w k) where

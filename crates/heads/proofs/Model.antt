@@ -14,6 +14,7 @@ use Rattle.meaning.specs.Reading.{Got, got, wrong, due, lineEnd}
 use Rattle.meaning.specs.Name.{Name, name}
 use Rattle.meaning.specs.Sheet.{Sheet, eventNames, statusNames, statuses}
 use Rattle.theory.specs.Built.{name-built}
+use Rattle.theory.specs.Faults.{never-zero}
 use Rattle.text.specs.Packed.{packed}
 use Rattle.text.specs.declared.NamePiece.{NamePiece}
 use Rattle.text.specs.declared.NamePiece.the-variants as N
@@ -25,7 +26,7 @@ use Rattle.heads.specs.declared.HeadsRead.{HeadsRead}
 use Rattle.heads.specs.Answers.{refusal, nameFault}
 use Rattle.heads.specs.Parts.{withFields, modelPart}
 use Rattle.heads.specs.Held.{Plain, NoFields, Reads}
-use Rattle.heads.proofs.Sections.{not-zero, reads-wrong, reads-got, line-not}
+use Rattle.heads.proofs.Sections.{reads-wrong, reads-got, line-not}
 
 -- the line, by what its pieces gave
 module _ (s : List ℕ) where
@@ -92,7 +93,7 @@ module _ (s : List ℕ) where
       model-misnamed k told f g r q =
           let e = name-wrong p (drop 6 s) piece k told 1 in
           let z : f ≡ k = g ∙ rw told in
-          reads-wrong k 1 (not-zero name-built 1 (drop 6 s) k 1 e) (model-name s (drop 6 s) due-key k e) (rw (← z) q)
+          reads-wrong k 1 (never-zero name-built 1 (drop 6 s) k 1 e) (model-name s (drop 6 s) due-key k e) (rw (← z) q)
 
       module _ (w n : ℕ) (told : p ≡ N.Name w n) where
         named-fits : 6 + n ≤ length s

@@ -15,6 +15,7 @@ use Rattle.meaning.specs.Text.{text, begins}
 use Rattle.meaning.specs.Reading.{Got, got, wrong, stands}
 use Rattle.meaning.specs.Name.{Name, known}
 use Rattle.theory.specs.Built.{known-built}
+use Rattle.theory.specs.Faults.{never-zero}
 use Rattle.text.specs.Packed.{named}
 use Rattle.text.specs.declared.Known.{Known}
 use Rattle.text.specs.declared.Known.the-variants as K
@@ -25,7 +26,6 @@ use Rattle.heads.specs.declared.Under.the-variants as U
 use Rattle.heads.specs.Answers.{knownFault}
 use Rattle.heads.specs.Parts.{underPiece}
 use Rattle.heads.specs.Held.{UnderRead}
-use Rattle.heads.proofs.Sections.{not-zero}
 
 -- by what the pieces gave
 module _ (ns : List Name) (l : ℕ) (t : List ℕ) where
@@ -57,7 +57,7 @@ module _ (ns : List Name) (t : List ℕ) (b : Bool) (tested : b ≡ begins (32 �
     under-unknown k told f q =
         let w = known-wrong p ns (drop 1 t) piece k told in
         let z : f ≡ k = q ∙ rw told in
-        rw z ((not-zero (known-built ns) 0 (drop 1 t) k 0 (w 0)), λ l. under-wrong ns l t space k (w l))
+        rw z ((never-zero (known-built ns) 0 (drop 1 t) k 0 (w 0)), λ l. under-wrong ns l t space k (w l))
 
     module _ (i n : ℕ) (told : p ≡ K.At i n) where
       in-table : i < length ns

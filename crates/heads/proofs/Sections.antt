@@ -1,18 +1,17 @@
 -- A section, whatever its rows are: where it stands, and each way on.
-use Prim.Native.Nat.{ℕ, zero, suc, _+_, _-_, _^_, _<_, _≤_}
-use mathlib.Core.Path.{_≡_, refl, sym, _∙_, ap, subst}
-use mathlib.Core.Bool.{Bool, true, false}
+use Prim.Native.Nat.{ℕ, suc, _+_, _-_, _^_, _<_, _≤_}
+use mathlib.Core.Path.{_≡_, refl, sym, _∙_}
+use mathlib.Core.Bool.{true, false}
 use mathlib.Core.List.{List, [], _∷_, _++_}
 use native.Mathlib.Omega.{arith}
 use lib.ListN.{length, drop, length-append, length-drop}
 use lib.Seq.{drop-drop}
 use Rattle.meaning.specs.Text.{text, begins}
-use Rattle.meaning.specs.Reading.{Got, got, wrong, Reader, after, give, stands, lineEnd}
+use Rattle.meaning.specs.Reading.{Got, got, wrong, Reader, after, give, lineEnd}
 use Rattle.meaning.specs.Name.{Name}
 use Rattle.meaning.specs.Sheet.{Sheet}
 use Rattle.meaning.specs.ReadSheet.{section}
-use Rattle.theory.specs.Built.{Built}
-use Rattle.theory.specs.Faults.{Faulty, built-faulty}
+use Rattle.theory.specs.Sections.{section-over, section-full, section-wrong, section-row}
 use Rattle.text.specs.Packed.{packed, named}
 use Rattle.text.proofs.Callers.{line-end-ended, line-end-not}
 use Rattle.tables.specs.declared.Heads.{Heads}
@@ -20,15 +19,6 @@ use Rattle.tables.specs.Heads.{asHeads, allNames}
 use Rattle.heads.specs.declared.HeadsRead.{HeadsRead}
 use Rattle.heads.specs.Answers.{asHeadsRead, refusal}
 use Rattle.heads.specs.Held.{nextLine, Plain, Came, Reads}
-
--- one reader after two others
-pub after-after : {A B C : Type 0} (x : Got A) (f : A → Reader B) (g : B → Reader C) → after (after x f) g ≡ after x (λ a l t. after (f a l t) g)
-after-after (got a l t) f g = refl
-after-after (wrong n l) f g = refl
-
--- no reader refuses with the number 0
-pub not-zero : {A : Type 0} {r : Reader A} → Built r → (l : ℕ) (t : List ℕ) (n k : ℕ) → r l t ≡ wrong n k → n ≡ 0 → ⊥
-not-zero h l t n k e z = omega (arith, subst Faulty e (built-faulty h l t) .0)
 
 -- the end of a line, wherever the paper ends
 pub line-not : (l : ℕ) (u : List ℕ) → begins (text "\n") u ≡ false → lineEnd 2 l u ≡ wrong 2 l
@@ -74,27 +64,6 @@ module _ {A : Type 0} (key : List ℕ) (row : List A → Reader A) (put : List A
     pub within : at ≤ length s
     pub same : x ≡ after (section key row (limit - length so) so (nextLine (put so)) (drop at s)) (λ xs. give (put xs))
 
--- one way on after another
-module _ {A : Type 0} (key : List ℕ) (row : List A → Reader A) (so : List A) (l : ℕ) (t : List ℕ) where
-  section-over : (room : ℕ) → begins key t ≡ false → section key row room so l t ≡ got so l t
-  unfolding section stands
-  section-over zero e = rw e
-  section-over (suc room) e = rw e
-
-  module _ (here : begins key t ≡ true) where
-    section-full : section key row 0 so l t ≡ wrong 6 l
-    unfolding section stands
-    section-full = rw here
-
-    section-wrong : (room n m : ℕ) → row so l (drop (length key) t) ≡ wrong n m → section key row (suc room) so l t ≡ wrong n m
-    unfolding section stands
-    section-wrong room n m e = rw (here, e)
-
-    section-row : (room : ℕ) (a : A) (m : ℕ) (u : List ℕ) → row so l (drop (length key) t) ≡ got a m u
-        → section key row (suc room) so l t ≡ section key row room (so ++ (a ∷ [])) m u
-    unfolding section stands
-    section-row room a m u e = rw (here, e)
-
 module _ {A : Type 0} {key : List ℕ} {row : List A → Reader A} {put : List A → Sheet} {limit : ℕ} {s : List ℕ} {x : Got Sheet} {h : Heads} {at : ℕ}
     (i : Going key row put limit s x h at) where
   -- no further line
@@ -112,14 +81,11 @@ module _ {A : Type 0} {key : List ℕ} {row : List A → Reader A} {put : List A
         i .same ∙ rw (y, section-full key row (i .so) (nextLine (put (i .so))) (drop at s) here)
 
     module _ (room : length (i .so) < limit) where
-      left : limit - length (i .so) ≡ suc (limit - (length (i .so) + 1))
-      left = omega arith
-
       -- a wrong row
       pub going-wrong : (n : ℕ) → row (i .so) (nextLine (put (i .so))) (drop (at + length key) s) ≡ wrong n (nextLine (put (i .so)))
           → x ≡ wrong n (nextLine (put (i .so)))
       going-wrong n e =
-          i .same ∙ rw (left, section-wrong key row (i .so) (nextLine (put (i .so))) (drop at s) here (limit - (length (i .so) + 1)) n (nextLine (put (i .so))) (rw (drop-drop (length key) at s) e))
+          i .same ∙ rw (section-wrong key row (i .so) (nextLine (put (i .so))) (drop at s) here (limit - length (i .so)) (omega arith) n (nextLine (put (i .so))) (rw (drop-drop (length key) at s) e))
 
       -- a good row
       pub going-more : (a : A) (h′ : Heads) (at′ : ℕ) → row (i .so) (nextLine (put (i .so))) (drop (at + length key) s) ≡ got a (suc (nextLine (put (i .so)))) (drop at′ s)
@@ -128,6 +94,7 @@ module _ {A : Type 0} {key : List ℕ} {row : List A → Reader A} {put : List A
           → Going key row put limit s x h′ at′
       going-more a h′ at′ e one is plain within =
           let k : length (i .so ++ (a ∷ [])) ≡ length (i .so) + 1 = length-append (i .so) (a ∷ []) in
+          let m : limit - length (i .so) - 1 ≡ limit - length (i .so ++ (a ∷ [])) = omega arith in
           let j : nextLine (put (i .so ++ (a ∷ []))) ≡ suc (nextLine (put (i .so))) = omega arith in
           record {
             so = i .so ++ (a ∷ []);
@@ -137,5 +104,5 @@ module _ {A : Type 0} {key : List ℕ} {row : List A → Reader A} {put : List A
             short = i .short;
             within = within;
             same =
-                i .same ∙ rw (left, section-row key row (i .so) (nextLine (put (i .so))) (drop at s) here (limit - (length (i .so) + 1)) a (suc (nextLine (put (i .so)))) (drop at′ s) (rw (drop-drop (length key) at s) e), k, j);
+                i .same ∙ rw (section-row key row (i .so) (nextLine (put (i .so))) (drop at s) here (limit - length (i .so)) (omega arith) a (suc (nextLine (put (i .so)))) (drop at′ s) (rw (drop-drop (length key) at s) e), m, j);
           }

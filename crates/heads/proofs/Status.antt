@@ -17,6 +17,8 @@ use Rattle.meaning.specs.Name.{Name, newName}
 use Rattle.meaning.specs.Sheet.{Status, statusNames}
 use Rattle.meaning.specs.ReadSheet.{status}
 use Rattle.theory.specs.Built.{newName-built}
+use Rattle.theory.specs.Faults.{never-zero}
+use Rattle.theory.specs.Readers.{after-after}
 use Rattle.text.specs.Packed.{packed, named}
 use Rattle.text.specs.declared.NamePiece.{NamePiece}
 use Rattle.text.specs.declared.NamePiece.the-variants as N
@@ -29,7 +31,7 @@ use Rattle.heads.specs.declared.StatusLine.the-variants as S
 use Rattle.heads.specs.Answers.{nameFault, underFault}
 use Rattle.heads.specs.Parts.{underPiece}
 use Rattle.heads.specs.Held.{UnderRead, StatusIs, StatusNot, StatusRead}
-use Rattle.heads.proofs.Sections.{after-after, not-zero, line-not, again-packed}
+use Rattle.heads.proofs.Sections.{line-not, again-packed}
 
 -- A ROW, by what its pieces gave
 closing : Name → Option ℕ → Reader Status
@@ -67,7 +69,7 @@ module _ (before stages : List Name) (t : List ℕ) (p : NamePiece) (read : p �
   line-name k told f g =
       let e = new-name-wrong p before t read k told in
       let z : f ≡ k = g ∙ rw told in
-      rw z record { number = (not-zero (newName-built before) 0 t k 0 (e 0)); reads = λ ss q l. status-name before ss l t k (e l) }
+      rw z record { number = (never-zero (newName-built before) 0 t k 0 (e 0)); reads = λ ss q l. status-name before ss l t k (e l) }
 
   module _ (w k : ℕ) (told : p ≡ N.Name w k) (v : List ℕ) (q : Under) (rest : v ≡ drop k t) (under : UnderRead stages v q) where
     parent : UnderRead stages (drop k t) q

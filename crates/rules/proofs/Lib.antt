@@ -3,7 +3,7 @@ pub mod Answered
 pub mod Pieces
 pub mod Endings
 pub mod Rows
-pub mod Sections
+pub mod Cleared
 pub mod Scan
 pub mod Whole
 pub mod Callers

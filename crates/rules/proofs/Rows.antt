@@ -13,6 +13,7 @@ use Rattle.meaning.specs.ReadCondition.{condition}
 use Rattle.meaning.specs.Sheet as M
 use Rattle.meaning.specs.Sheet.{leavesOf, leaves}
 use Rattle.meaning.specs.ReadSheet.{trigger, ruleRow}
+use Rattle.theory.specs.Readers.{after-after}
 use Rattle.text.specs.Packed.{named}
 use Rattle.condition.specs.declared.Place.{Place}
 use Rattle.condition.specs.declared.CondRead.{CondRead}
@@ -30,11 +31,6 @@ use Rattle.rules.specs.Parts.{Begun, change, begun, ending, row, startAt
 use Rattle.rules.proofs.Answered.{Lined, line-bind, Answered, found, faulty, answered, answered-line, answers-found, behind}
 use Rattle.rules.proofs.Pieces.{told-begun}
 use Rattle.rules.proofs.Endings.{Few, lined-ending}
-
--- one piece after another, whichever two are taken together
-after-after : {A B D : Type 0} (g : Got A) (f : A → Reader B) (h : B → Reader D) → after (after g f) h ≡ after g (λ a l s. after (f a l s) h)
-after-after (got a l s) f h = refl
-after-after (wrong n l) f h = refl
 
 -- the meaning's reader, in the parts of the code
 pub row-is : (fs es ss : List Name) (so : List M.Rule) (l : ℕ) (s : List ℕ) → ruleRow fs es ss so l s ≡ row fs es ss (length (leaves so)) l s

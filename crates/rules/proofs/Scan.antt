@@ -15,9 +15,12 @@ use Rattle.meaning.specs.Reading.{Got}
 use Rattle.meaning.specs.Sheet as M
 use Rattle.meaning.specs.Sheet.{leavesOf, leaves}
 use Rattle.meaning.specs.ReadSheet.{section, ruleRow}
+use Rattle.theory.specs.Lists.{joined-more}
+use Rattle.theory.specs.Sections.{section-over, section-full, section-wrong, section-row}
 use Rattle.text.specs.Packed.{named}
 use Rattle.text.proofs.Callers.{begins-fits}
 use Rattle.tables.specs.Heads.{padded}
+use Rattle.tables.proofs.Padded.{padded-set}
 use Rattle.condition.proofs.Kept.{sets-append}
 use Rattle.rules.specs.declared.Rule.{Rule}
 use Rattle.rules.specs.declared.Rules.{Rules}
@@ -29,7 +32,6 @@ use Rattle.rules.specs.Answers.{wordsOf, asRule, asRows, allWords, noRul
 use Rattle.rules.specs.Parts.{Room, row, rowAt, asRow, Stored, RowsAs}
 use Rattle.rules.proofs.Answered.{Answered, found, faulty, answered-line, behind}
 use Rattle.rules.proofs.Rows.{FewRule, row-is, lined-row}
-use Rattle.rules.proofs.Sections.{section-over, section-full, section-wrong, section-row, padded-row, joined-more}
 
 -- A RULE MORE
 abbrev ws : M.Rule → List ℕ
@@ -65,7 +67,7 @@ rules-more : (so : List M.Rule) (r : M.Rule) → length so < 128
 unfolding asRules
 rules-more so r h =
     let a : set (padded 128 noRule (asRows 0 so)) (length so) (asRule (length (allWords so)) r) ≡ padded 128 noRule (asRows 0 (so ++ (r ∷ [])))
-    = rw (rows-more 0 so r, ← rows-count 0 so, zero-add) (padded-row 128 noRule (asRule (length (allWords so)) r) (asRows 0 so) (rw (rows-count 0 so) h)) in
+    = rw (rows-more 0 so r, ← rows-count 0 so, zero-add) (padded-set 128 noRule (asRows 0 so) (asRule (length (allWords so)) r) (rw (rows-count 0 so) h)) in
     let b : suc (length so) ≡ length (so ++ (r ∷ [])) = sym (count-more so r) in
     let c : length (allWords so) + length (ws r) ≡ length (allWords (so ++ (r ∷ []))) = rw (words-more so r) (sym (length-append (allWords so) (ws r))) in
     let d : length (leaves so) + length (leavesOf (r .condition)) ≡ length (leaves (so ++ (r ∷ []))) = rw (leaves-more so r) (sym (length-append (leaves so) (leavesOf (r .condition)))) in

@@ -1,6 +1,6 @@
 -- What the code answers for the rules that the meaning reads, and what the lent words then are.
 use Prim.Native.Nat.{ℕ, _+_, _≤_}
-use mathlib.Core.Bool.{Bool, true, false}
+use mathlib.Core.Bool.{Bool, true, false, cond}
 use mathlib.Core.List.{List, [], _∷_}
 use mathlib.Core.Option.{Option, none, some}
 use lib.ListN.{length, replicate}
@@ -10,6 +10,7 @@ use Rattle.meaning.specs.Reading.{Got, got, wrong}
 use Rattle.meaning.specs.Condition.{Cond}
 use Rattle.meaning.specs.Sheet as M
 use Rattle.meaning.specs.Sheet.{Sign, plus, minus, leaves}
+use Rattle.meaning.specs.Dependency.{up, down}
 use Rattle.verdict.specs.Flat.{words}
 use Rattle.tables.specs.Heads.{padded}
 use Rattle.rules.specs.declared.Trigger.{Trigger}
@@ -43,6 +44,10 @@ asRule top r = record {
   from = top;
   to = top + length (wordsOf (r .condition));
 }
+
+-- the node that a rule sets
+abbrev pub nodeOf : Rule → ℕ
+nodeOf r = cond (r .plus) (up (r .status)) (down (r .status))
 
 unfoldable pub asRows : ℕ → List M.Rule → List Rule
 asRows top [] = []

@@ -2,7 +2,7 @@
 use Prim.Native.Nat.{ℕ, zero, suc, _+_, _≤_, _<_}
 use mathlib.Core.Path.{_≡_, refl, sym, _∙_, ap, ap₂, subst}
 use mathlib.Core.Bool.{Bool, true, false, not, _||_, true≢false, false≢true}
-use mathlib.Core.List.{List, [], _∷_, _++_, map}
+use mathlib.Core.List.{List, [], _∷_, _++_, map, append-nil, append-assoc}
 use mathlib.Core.Logic.{_⊎_, inl, inr, ⊎-elim}
 use native.Mathlib.Omega.{arith}
 use native.Mathlib.Decide.{ℕ-discrete}
@@ -49,6 +49,19 @@ module _ {A B : Type 0} where
   joined-in f b [] h = absurd h
   joined-in f b (x ∷ xs) h =
       ⊎-elim (λ k. (x, inl refl, k)) (λ k. let (a, i, j) = joined-in f b xs k in (a, inr i, j)) (in-cases b (f x) (joined f xs) h)
+
+  -- of two lists, of one member, and of one member more
+  pub joined-both : (f : A → List B) (xs ys : List A) → joined f (xs ++ ys) ≡ joined f xs ++ joined f ys
+  unfolding joined
+  joined-both f [] ys = refl
+  joined-both f (x ∷ xs) ys = ap (λ l. f x ++ l) (joined-both f xs ys) ∙ sym (append-assoc (f x) (joined f xs) (joined f ys))
+
+  pub joined-one : (f : A → List B) (x : A) → joined f (x ∷ []) ≡ f x
+  unfolding joined
+  joined-one f x = append-nil (f x)
+
+  pub joined-more : (f : A → List B) (xs : List A) (a : A) → joined f (xs ++ (a ∷ [])) ≡ joined f xs ++ f a
+  joined-more f xs a = joined-both f xs (a ∷ []) ∙ ap (λ l. joined f xs ++ l) (joined-one f a)
 
 -- the members that pass a test, and whether some member does
 module _ {A : Type 0} (p : A → Bool) where
