@@ -23,7 +23,8 @@ use Rattle.theory.specs.Formed.{Each, RuleIn, Well}
 use Rattle.tables.specs.Heads.{padded, underCode}
 use Rattle.verdict.specs.Flat.{word, bit, comparisonWord, leafWord, join, wordsC, wordsA, wordsI, words}
 use Rattle.rules.specs.declared.Rules.{Rules}
-use Rattle.rules.specs.Answers.{isPlus, asTrigger, nodeOf, wordsOf, asRule, asRows, allWords, asRules, noRule}
+use Rattle.trigger.specs.Answers.{isPlus, asTrigger}
+use Rattle.rules.specs.Answers.{nodeOf, wordsOf, asRule, asRows, allWords, asRules, noRule}
 use Rattle.rules.proofs.Callers.{node-same}
 use Rattle.order.specs.declared.Sorting.{Sorting}
 use Rattle.order.specs.Answers.{asSorting}

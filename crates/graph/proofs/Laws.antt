@@ -18,8 +18,8 @@ use Rattle.order.specs.declared.Sorting.{Sorting}
 use Rattle.order.specs.Masks.{has, maskInto, withBit}
 use Rattle.order.specs.Answers.{asSorting}
 use Rattle.order.proofs.Callers.{has-with, edges-none, sort-same}
-use Rattle.rules.specs.declared.Trigger.{Trigger}
-use Rattle.rules.specs.declared.Trigger.the-variants.{Always, Event, Rise, Fall}
+use Rattle.trigger.specs.declared.Trigger.{Trigger}
+use Rattle.trigger.specs.declared.Trigger.the-variants.{Always, Event, Rise, Fall}
 use Rattle.rules.specs.declared.Rule.{Rule}
 use Rattle.rules.specs.declared.Rules.{Rules}
 use Rattle.rules.specs.Answers.{nodeOf}

@@ -14,7 +14,7 @@ ghost use Rattle.graph.specs.Added.{Added, toward, rulesInto};
 use order::Sorting;
 use rules::Rule;
 use rules::Rules;
-use rules::Trigger;
+use trigger::Trigger;
 
 // A status as an index. Its bound keeps the numbers of its nodes from overflowing.
 fn wide(x: u8) -> usize

@@ -9,7 +9,7 @@ ghost use Rattle.plan.specs.Plan.{groupOf, asPlan};
 ghost use Rattle.plan.specs.Listed.{noneListed, addAll};
 use rules::Rule;
 use rules::Rules;
-use rules::Trigger;
+use trigger::Trigger;
 
 // The rules in the order of the nodes, and behind which of them each node's rules end.
 pub struct Plan {

@@ -21,8 +21,9 @@ use Rattle.number.specs.Answers.{asEnd}
 use Rattle.number.specs.declared.End.{End}
 use Rattle.number.specs.declared.End.the-variants as D
 use Rattle.number.proofs.Callers.{end-got, end-wrong}
+use Rattle.trigger.specs.Answers.{isPlus}
 use Rattle.rules.specs.declared.RulesRead.{RulesRead}
-use Rattle.rules.specs.Answers.{isPlus, nodeOf, asRule, allWords, asRules, asRulesRead, wordsSpace}
+use Rattle.rules.specs.Answers.{nodeOf, asRule, allWords, asRules, asRulesRead, wordsSpace}
 
 -- nothing is left behind the rules
 abbrev Closed : {A : Type 0} → Got A → Type 0

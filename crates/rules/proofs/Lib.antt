@@ -1,6 +1,4 @@
 -- Laws of the rules' readers:
-pub mod Answered
-pub mod Pieces
 pub mod Endings
 pub mod Rows
 pub mod Cleared

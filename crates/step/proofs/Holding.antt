@@ -27,7 +27,8 @@ use Rattle.verdict.specs.Fits.{Fits}
 use Rattle.verdict.proofs.Size.{words-length}
 use Rattle.verdict.proofs.Callers.{verdict-is, verdict-true}
 use Rattle.rules.specs.declared.Rule.{Rule}
-use Rattle.rules.specs.Answers.{isPlus, asTrigger, nodeOf, wordsOf, asRule, asRows, allWords}
+use Rattle.trigger.specs.Answers.{isPlus, asTrigger}
+use Rattle.rules.specs.Answers.{nodeOf, wordsOf, asRule, asRows, allWords}
 use Rattle.rules.proofs.Callers.{node-same as row-node}
 use Rattle.plan.specs.Plan.{groupOf}
 use Rattle.plan.proofs.Laws.{group-hit, group-miss}

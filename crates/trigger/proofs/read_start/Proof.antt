@@ -1,9 +1,9 @@
 -- Behind sign and status a trigger is read where ` on ` stands.
 -- Assumes nothing.
 use borrow.Author.Needs.{needs}
-use Rattle.rules.proofs.Pieces.{starting}
-use Rattle.rules.proofs.read_start.Statement.{statement}
-use Rattle.rules.proofs.read_start.Tie as tie
+use Rattle.trigger.proofs.Pieces.{starting}
+use Rattle.trigger.proofs.read_start.Statement.{statement}
+use Rattle.trigger.proofs.read_start.Tie as tie
 
 read-change-requires : tie.Need-read-change-requires
 read-change-requires c κs = search needs

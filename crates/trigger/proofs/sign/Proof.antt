@@ -1,9 +1,9 @@
 -- A sign is `+` or `-`: each test that holds is the first word of the list that stands there.
 -- Assumes nothing.
 use borrow.Author.Needs.{needs}
-use Rattle.rules.proofs.Pieces.{signing}
-use Rattle.rules.proofs.sign.Statement.{statement}
-use Rattle.rules.proofs.sign.Tie as tie
+use Rattle.trigger.proofs.Pieces.{signing}
+use Rattle.trigger.proofs.sign.Statement.{statement}
+use Rattle.trigger.proofs.sign.Tie as tie
 
 slice-aggregate-starts : tie.Need-slice-aggregate-starts
 slice-aggregate-starts c = search needs

@@ -1,9 +1,9 @@
 -- A sign and a status are the rise or the fall of the status.
 -- Assumes nothing.
 use borrow.Author.Needs.{needs}
-use Rattle.rules.proofs.Pieces.{moves-up, moves-down}
-use Rattle.rules.proofs.moves.Statement.{statement}
-use Rattle.rules.proofs.moves.Tie as tie
+use Rattle.trigger.proofs.Pieces.{moves-up, moves-down}
+use Rattle.trigger.proofs.moves.Statement.{statement}
+use Rattle.trigger.proofs.moves.Tie as tie
 
 returns : tie.Need-returns
 returns c = search (needs, moves-up)

@@ -1,8 +1,9 @@
 -- Laws of the pieces of a rule's line: its sign, a trigger, and all before ` if `.
 use Prim.Native.Nat.{ℕ, _+_, _-_, _^_, _≤_, _<_}
-use mathlib.Core.Path.{_≡_, refl, sym, _∙_, ap}
+use mathlib.Core.Path.{_≡_, refl, sym, _∙_, ap, subst}
 use mathlib.Core.Bool.{Bool, true, false, not}
 use mathlib.Core.List.{List, [], map}
+use mathlib.Core.Option.{Option, none, some}
 use native.Mathlib.Omega.{arith}
 use borrow.Author.Tests.{not-true, not-false}
 use lib.ListN.{length, take, drop, length-map}
@@ -10,7 +11,7 @@ use lib.Seq.{drop-drop, take-length}
 use mir.Val.{Fits}
 use mir.Syntax.{w8, w64}
 use Rattle.meaning.specs.Text.{text, begins}
-use Rattle.meaning.specs.Reading.{Got, got, wrong, after, give, choose, stands, oneOf}
+use Rattle.meaning.specs.Reading.{Got, got, wrong, Reader, after, give, choose, stands, oneOf}
 use Rattle.meaning.specs.Name.{Name, known}
 use Rattle.meaning.specs.Sheet as M
 use Rattle.meaning.specs.Sheet.{Sign, plus, minus}
@@ -21,18 +22,18 @@ use Rattle.text.specs.declared.Known.{Known}
 use Rattle.text.specs.declared.Known.the-variants as K
 use Rattle.text.proofs.Callers.{begins-fits, stands-here, stands-not, known-got, known-wrong, known-place, known-fits, known-few}
 use Rattle.condition.proofs.Told.{Told, Any, told-give, told-choose, told-bind, told-stands, told-oneOf}
-use Rattle.rules.specs.declared.Trigger.{Trigger}
-use Rattle.rules.specs.declared.Trigger.the-variants.{Always, Event, Rise, Fall}
-use Rattle.rules.specs.declared.SignRead.{SignRead}
-use Rattle.rules.specs.declared.SignRead.the-variants as G
-use Rattle.rules.specs.declared.TriggerRead.{TriggerRead}
-use Rattle.rules.specs.declared.TriggerRead.the-variants as T
-use Rattle.rules.specs.declared.Start.{Start}
-use Rattle.rules.specs.declared.StartRead.{StartRead}
-use Rattle.rules.specs.declared.StartRead.the-variants as S
-use Rattle.rules.specs.Answers.{isPlus, asTrigger}
-use Rattle.rules.specs.Parts.{Begun, eventTrigger, change, begun, moved, asSign, triggerAt, asTriggerRead, startAt, asStart}
-use Rattle.rules.proofs.Answered.{Answered, found, faulty, answered, answers-found, behind}
+use Rattle.trigger.specs.declared.Trigger.{Trigger}
+use Rattle.trigger.specs.declared.Trigger.the-variants.{Always, Event, Rise, Fall}
+use Rattle.trigger.specs.declared.SignRead.{SignRead}
+use Rattle.trigger.specs.declared.SignRead.the-variants as G
+use Rattle.trigger.specs.declared.TriggerRead.{TriggerRead}
+use Rattle.trigger.specs.declared.TriggerRead.the-variants as T
+use Rattle.trigger.specs.declared.Start.{Start}
+use Rattle.trigger.specs.declared.StartRead.{StartRead}
+use Rattle.trigger.specs.declared.StartRead.the-variants as S
+use Rattle.trigger.specs.Answers.{Begun, change, begun, isPlus, asTrigger, startAt, asStart}
+use Rattle.trigger.specs.Parts.{eventTrigger, moved, asSign, triggerAt, asTriggerRead}
+use Rattle.trigger.proofs.Answered.{behind, told-ends, Kind, Found, answered-found, answered-wrong, answers-found}
 
 -- NAMES OF A TABLE: all of it
 pub known-all : (t : List ℕ) (s : List ℕ) (p : Known) → p ≡ asKnown s (known (map named (take (length t - 0) (drop 0 t))) 0 s) → p ≡ asKnown s (known (map named t) 0 s)
@@ -109,43 +110,41 @@ module _ (s : List ℕ) where
   unfolding oneOf stands trigger eventTrigger
   unsigned e f = record { none = λ l. rw (e, f); event = λ fs es ss l. rw (e, f) }
 
+  either : (Q : Type 0) → ((p : Bool) → Signed s p → Q) → (Unsigned s → Q) → Q
+  either Q h g = first (begins (text "+") s) refl
+    where
+      second : begins (text "+") s ≡ false → (b : Bool) → begins (text "-") s ≡ b → Q
+      second e true f = h false (signed-minus e f)
+      second e false f = g (unsigned e f)
+
+      first : (b : Bool) → begins (text "+") s ≡ b → Q
+      first true e = h true (signed-plus e)
+      first false e = second e (begins (text "-") s) refl
+
   module _ (g : SignRead) (is : g ≡ asSign (oneOf 2 signs 0 s)) where
     pub sign-told : (p : Bool) → g ≡ G.Sign p → Signed s p
-    sign-told p told = first (begins (text "+") s) refl
+    sign-told p told = either (Signed s p) good bad
       where
-        second : begins (text "+") s ≡ false → (b : Bool) → begins (text "-") s ≡ b → Signed s p
-        second e true f =
-            let q : G.Sign p ≡ G.Sign false = sym told ∙ is ∙ rw (signed-minus e f .reads 0) in
-            let z : p ≡ false = cc in
-            rw z (signed-minus e f)
-        second e false f =
-            let q : G.Sign p ≡ G.Refused 2 = sym told ∙ is ∙ rw (unsigned e f .none 0) in
+        good : (b : Bool) → Signed s b → Signed s p
+        good b h =
+            let q : G.Sign p ≡ G.Sign b = sym told ∙ is ∙ rw (h .reads 0, plus-signOf b) in
+            let z : p ≡ b = cc in
+            rw z h
+
+        bad : Unsigned s → Signed s p
+        bad h =
+            let q : G.Sign p ≡ G.Refused 2 = sym told ∙ is ∙ rw (h .none 0) in
             let z : _≡_ {A = ℕ} 0 1 = cc in
             absurd (omega arith)
-
-        first : (b : Bool) → begins (text "+") s ≡ b → Signed s p
-        first true e =
-            let q : G.Sign p ≡ G.Sign true = sym told ∙ is ∙ rw (signed-plus e .reads 0) in
-            let z : p ≡ true = cc in
-            rw z (signed-plus e)
-        first false e = second e (begins (text "-") s) refl
 
     pub sign-refused : (k : ℕ) → g ≡ G.Refused k → Unsigned s
-    sign-refused k told = first (begins (text "+") s) refl
+    sign-refused k told = either (Unsigned s) signed (λ h. h)
       where
-        second : begins (text "+") s ≡ false → (b : Bool) → begins (text "-") s ≡ b → Unsigned s
-        second e true f =
-            let q : G.Refused k ≡ G.Sign false = sym told ∙ is ∙ rw (signed-minus e f .reads 0) in
+        signed : (b : Bool) → Signed s b → Unsigned s
+        signed b h =
+            let q : G.Refused k ≡ G.Sign b = sym told ∙ is ∙ rw (h .reads 0, plus-signOf b) in
             let z : _≡_ {A = ℕ} 0 1 = cc in
             absurd (omega arith)
-        second e false f = unsigned e f
-
-        first : (b : Bool) → begins (text "+") s ≡ b → Unsigned s
-        first true e =
-            let q : G.Refused k ≡ G.Sign true = sym told ∙ is ∙ rw (signed-plus e .reads 0) in
-            let z : _≡_ {A = ℕ} 0 1 = cc in
-            absurd (omega arith)
-        first false e = second e (begins (text "-") s) refl
 
 -- TRIGGERS
 pub moves-up : (b : Bool) (x : ℕ) → b ≡ true → Rise x ≡ moved b x
@@ -197,7 +196,7 @@ module _ (s es ss : List ℕ) (g : SignRead) (is : g ≡ asSign (oneOf 2 signs 0
 
 pub ruleset triggering = (trigger-event, trigger-refused, trigger-read, place-fits, name-next)
 
-told-trigger : (fs es ss : List Name) (s : List ℕ) → Told Any (trigger fs es ss) s
+pub told-trigger : (fs es ss : List Name) (s : List ℕ) → Told Any (trigger fs es ss) s
 unfolding trigger
 told-trigger fs es ss s =
     told-bind Any Any (stands (text "+")) _ s (told-stands (text "+") s) (λ b u h. told-choose Any b _ _ u (λ e. status M.Trigger.rise u)
@@ -238,135 +237,115 @@ pub record Bare (b : Begun) : Type 0 where
   pub none : b .trigger ≡ M.Trigger.always
   pub off : b .on ≡ false
 
-told-change : (ss : List Name) (s : List ℕ) → Told Bare (change ss) s
+pub told-change : (ss : List Name) (s : List ℕ) → Told Bare (change ss) s
 unfolding change oneOf
 told-change ss s =
     told-bind Any Bare (oneOf 2 signs) _ s (told-oneOf 2 signs s) (λ g u h. told-bind Any Bare (known ss) _ u (told-known ss u)
     (λ x v k. told-give Bare (record { sign = g; status = x; trigger = M.Trigger.always; on = false }) v (record { none = refl; off = refl })))
 
--- then a trigger
-module _ (s es ss : List ℕ) (r : StartRead) (is : r ≡ asStart s (change (map named ss) 0 s)) where
-  changed : Answered Bare (λ l. l) startAt S.Refused (change (map named ss)) s r
-  changed = answered Bare startAt S.Refused (change (map named ss)) s (told-change (map named ss) s) r is
+-- THE WHOLE START: then a trigger
+abbrev startFault : StartRead → Option ℕ
+startFault (S.At a) = none
+startFault (S.Refused k) = some k
 
+abbrev triggerFault : TriggerRead → Option ℕ
+triggerFault (T.At x n) = none
+triggerFault (T.Refused k) = some k
+
+abbrev pub startKind : Kind Begun StartRead
+startKind = record { good = startAt; bad = S.Refused; fault = startFault; of-good = λ b n. refl; of-bad = λ k. refl }
+
+abbrev triggerKind : Kind M.Trigger TriggerRead
+triggerKind = record { good = triggerAt; bad = T.Refused; fault = triggerFault; of-good = λ b n. refl; of-bad = λ k. refl }
+
+-- how a line began: what was read, and how far
+pub record Starts (P : Begun → Type 0) (r : Reader Begun) (s : List ℕ) (a : Start) : Type 0 where
+  pub value : Begun
+  pub holds : P value
+  pub within : a .bytes ≤ length s
+  pub reads : (l : ℕ) → r l s ≡ got value l (drop (a .bytes) s)
+  pub same : a ≡ record { plus = isPlus (value .sign); status = value .status; trigger = asTrigger (value .trigger); on = value .on; bytes = a .bytes }
+
+pub starts : {P : Begun → Type 0} {r : Reader Begun} (s : List ℕ) → Told P r s → (b : StartRead) → b ≡ asStart s (r 0 s) → (a : Start) → b ≡ S.At a → Starts P r s a
+starts {P} {r} s told b is a e = go (answered-found startKind b is (told-ends told) (rw e))
+  where
+    go : Found startKind P (λ l. l) r s b → Starts P r s a
+    go f =
+        let z : S.At a ≡ startAt (f .value) (f .bytes) = sym e ∙ f .same in
+        let y : a ≡ record { plus = isPlus (f .value .sign); status = f .value .status; trigger = asTrigger (f .value .trigger); on = f .value .on; bytes = f .bytes } = cc in
+        rw y (record { value = f .value; holds = f .holds; within = f .within; reads = f .reads; same = refl })
+
+module _ (s es ss : List ℕ) (r : StartRead) (is : r ≡ asStart s (change (map named ss) 0 s)) where
   pub start-refused : (k : ℕ) → r ≡ S.Refused k → r ≡ asStart s (begun (map named es) (map named ss) 0 s)
   unfolding begun
-  start-refused k e = go changed
-    where
-      go : Answered Bare (λ l. l) startAt S.Refused (change (map named ss)) s r → r ≡ asStart s (begun (map named es) (map named ss) 0 s)
-      go (found a n h m reads z) =
-          let y : _≡_ {A = ℕ} 0 1 = cc in
-          absurd (omega arith)
-      go (faulty j reads z) = rw z (rw (reads 0))
-
-  -- what was read, and how far
-  pub record Changed (c : Start) : Type 0 where
-    pub value : Begun
-    pub bare : Bare value
-    pub within : c .bytes ≤ length s
-    pub reads : (l : ℕ) → change (map named ss) l s ≡ got value l (drop (c .bytes) s)
-    pub same : c ≡ record { plus = isPlus (value .sign); status = value .status; trigger = asTrigger (value .trigger); on = value .on; bytes = c .bytes }
+  start-refused k e = e ∙ rw (answered-wrong startKind r is (told-ends (told-change (map named ss) s)) k e 0)
 
   module _ (c : Start) (told : r ≡ S.At c) where
-    start-changed : Changed c
-    start-changed = go changed
-      where
-        go : Answered Bare (λ l. l) startAt S.Refused (change (map named ss)) s r → Changed c
-        go (found a n h m reads z) =
-            let y : c ≡ record { plus = isPlus (a .sign); status = a .status; trigger = asTrigger (a .trigger); on = a .on; bytes = n } = cc in
-            rw y (record { value = a; bare = h; within = m; reads = reads; same = refl })
-        go (faulty j reads z) =
-            let y : _≡_ {A = ℕ} 0 1 = cc in
-            absurd (omega arith)
+    changed : Starts Bare (change (map named ss)) s c
+    changed = starts s (told-change (map named ss) s) r is c told
 
     module _ (u : List ℕ) (at : u ≡ drop (c .bytes) s) (b : Bool) (here : b ≡ begins (text " on ") u) where
       pub start-plain : not b ≡ true → S.At c ≡ asStart s (begun (map named es) (map named ss) 0 s)
       unfolding begun
       start-plain f =
-          let h = start-changed in
+          let h = changed in
           let q : stands (text " on ") 0 (drop (c .bytes) s) ≡ got false 0 (drop (c .bytes) s) = rw at at (stands-not (text " on ") 0 u b here (not-true b f)) in
           let w = answers-found startAt S.Refused (begun (map named es) (map named ss)) s (record { sign = h .value .sign; status = h .value .status; trigger = M.Trigger.always; on = false }) 0 (c .bytes) (c .bytes) (h .within)
           (rw (h .reads 0, q)) refl in
-          let e : c ≡ record { plus = isPlus (h .value .sign); status = h .value .status; trigger = Always; on = false; bytes = c .bytes } = rw (h .bare .none, h .bare .off) at (h .same) in
+          let e : c ≡ record { plus = isPlus (h .value .sign); status = h .value .status; trigger = Always; on = false; bytes = c .bytes } = rw (h .holds .none, h .holds .off) at (h .same) in
           ap S.At e ∙ w
 
       module _ (f : not b ≡ false) (v : List ℕ) (then : v ≡ drop 4 u) (t : TriggerRead) (so : t ≡ asTriggerRead v (trigger [] (map named es) (map named ss) 0 v)) where
-        whole : (g : Got M.Trigger) → trigger [] (map named es) (map named ss) 0 v ≡ g
-            → begun (map named es) (map named ss) 0 s
-            ≡ after g (λ t. give (record { sign = start-changed .value .sign; status = start-changed .value .status; trigger = t; on = true }))
-        unfolding begun
-        whole g e =
-            let q : stands (text " on ") 0 (drop (c .bytes) s) ≡ got true 0 v = rw (← at, then) (stands-here (text " on ") 0 u b here (not-false b f)) in
-            rw (start-changed .reads 0, q, e)
+        key-fits : c .bytes + 4 ≤ length s
+        key-fits = behind s 4 (c .bytes) (changed .within) (rw at at (begins-fits (text " on ") u (sym here ∙ not-false b f)))
 
-        triggered : Answered Any (λ l. l) triggerAt T.Refused (trigger [] (map named es) (map named ss)) v t
-        triggered = answered Any triggerAt T.Refused (trigger [] (map named es) (map named ss)) v (told-trigger [] (map named es) (map named ss) v) t so
+        -- the line, by what its trigger gave
+        fired : (g : Got M.Trigger) → trigger [] (map named es) (map named ss) 0 v ≡ g
+            → begun (map named es) (map named ss) 0 s ≡ after g (λ t. give (record { sign = changed .value .sign; status = changed .value .status; trigger = t; on = true }))
+        unfolding begun
+        fired g e =
+            let q : stands (text " on ") 0 (drop (c .bytes) s) ≡ got true 0 v = rw (← at, then) (stands-here (text " on ") 0 u b here (not-false b f)) in
+            rw (changed .reads 0, q, e)
 
         pub start-unfired : (k : ℕ) → t ≡ T.Refused k → S.Refused k ≡ asStart s (begun (map named es) (map named ss) 0 s)
-        start-unfired k e = go triggered
-          where
-            go : Answered Any (λ l. l) triggerAt T.Refused (trigger [] (map named es) (map named ss)) v t → S.Refused k ≡ asStart s (begun (map named es) (map named ss) 0 s)
-            go (found a n h m reads z) =
-                let y : _≡_ {A = ℕ} 0 1 = cc in
-                absurd (omega arith)
-            go (faulty j reads z) =
-                let y : k ≡ j = cc in
-                rw (y, whole (wrong j 0) (reads 0))
+        start-unfired k e = rw (fired (wrong k 0) (answered-wrong triggerKind t so (told-ends (told-trigger [] (map named es) (map named ss) v)) k e 0))
 
-        pub start-fired : (x : Trigger) (n : ℕ) → t ≡ T.At x n → (m : ℕ) → m ≡ c .bytes + 4 + n
-            → S.At (record { plus = c .plus; status = c .status; trigger = x; on = true; bytes = m }) ≡ asStart s (begun (map named es) (map named ss) 0 s)
-        start-fired x n e m w = go triggered
-          where
-            four : 4 ≤ length (drop (c .bytes) s)
-            four = rw at at (begins-fits (text " on ") u (sym here ∙ not-false b f))
-
-            go : Answered Any (λ l. l) triggerAt T.Refused (trigger [] (map named es) (map named ss)) v t
-                → S.At (record { plus = c .plus; status = c .status; trigger = x; on = true; bytes = m }) ≡ asStart s (begun (map named es) (map named ss) 0 s)
-            go (found a k h fits reads z) =
-                let y : x ≡ asTrigger a = cc in
-                let i : n ≡ k = cc in
-                let d : v ≡ drop (c .bytes + 4) s = rw (then, at, drop-drop 4 (c .bytes) s) in
-                let j : c .bytes + 4 ≤ length s = behind s 4 (c .bytes) (start-changed .within) four in
-                let o : c .bytes + 4 + k ≤ length s = behind s k (c .bytes + 4) j (rw d at fits) in
-                let q : begun (map named es) (map named ss) 0 s ≡ got (record { sign = start-changed .value .sign; status = start-changed .value .status; trigger = a; on = true }) 0 (drop (c .bytes + 4 + k) s)
-                = rw (d, drop-drop k (c .bytes + 4) s) at (whole _ (reads 0)) in
-                let g : c .plus ≡ isPlus (start-changed .value .sign) = ap (λ (c : Start). c .plus) (start-changed .same) in
-                let st : c .status ≡ start-changed .value .status = ap (λ (c : Start). c .status) (start-changed .same) in
-                let same : _≡_ {A = StartRead} (S.At (record { plus = c .plus; status = c .status; trigger = x; on = true; bytes = m }))
-                (startAt (record { sign = start-changed .value .sign; status = start-changed .value .status; trigger = a; on = true }) m) = cc in
-                same ∙ answers-found startAt S.Refused (begun (map named es) (map named ss)) s _ 0 (c .bytes + 4 + k) m o q (omega arith)
-            go (faulty j reads z) =
-                let y : _≡_ {A = ℕ} 0 1 = cc in
-                absurd (omega arith)
-
-        -- the bytes up to the trigger, and with it
+        -- the bytes up to the trigger
         pub start-on : length s < 2 ^ 64 → (m : ℕ) → m ≡ c .bytes + 4 → Fits w64 m
-        start-on big m w =
-            let four : 4 ≤ length (drop (c .bytes) s) = rw at at (begins-fits (text " on ") u (sym here ∙ not-false b f)) in
-            let j : c .bytes + 4 ≤ length s = behind s 4 (c .bytes) (start-changed .within) four in
-            omega arith
+        start-on big m w = omega (arith, key-fits)
 
-        pub start-whole : length s < 2 ^ 64 → (x : Trigger) (n : ℕ) → t ≡ T.At x n → (m : ℕ) → m ≡ c .bytes + 4 + n → Fits w64 m
-        start-whole big x n e m w = go triggered
-          where
-            go : Answered Any (λ l. l) triggerAt T.Refused (trigger [] (map named es) (map named ss)) v t → Fits w64 m
-            go (found a k h fits reads z) =
-                let i : n ≡ k = cc in
-                let four : 4 ≤ length (drop (c .bytes) s) = rw at at (begins-fits (text " on ") u (sym here ∙ not-false b f)) in
-                let d : v ≡ drop (c .bytes + 4) s = rw (then, at, drop-drop 4 (c .bytes) s) in
-                let j : c .bytes + 4 ≤ length s = behind s 4 (c .bytes) (start-changed .within) four in
-                let o : c .bytes + 4 + k ≤ length s = behind s k (c .bytes + 4) j (rw d at fits) in
-                omega arith
-            go (faulty j reads z) =
-                let y : _≡_ {A = ℕ} 0 1 = cc in
-                absurd (omega arith)
+        module _ (x : Trigger) (n : ℕ) (e : t ≡ T.At x n) where
+          read : Found triggerKind Any (λ l. l) (trigger [] (map named es) (map named ss)) v t
+          read = answered-found triggerKind t so (told-ends (told-trigger [] (map named es) (map named ss) v)) (rw e)
+
+          read-is : T.At x n ≡ triggerAt (read .value) (read .bytes)
+          read-is = sym e ∙ read .same
+
+          v-is : v ≡ drop (c .bytes + 4) s
+          v-is = rw (then, at, drop-drop 4 (c .bytes) s)
+
+          all-fits : c .bytes + 4 + read .bytes ≤ length s
+          all-fits = behind s (read .bytes) (c .bytes + 4) key-fits (subst (λ w. read .bytes ≤ length w) v-is (read .within))
+
+          -- and with it
+          pub start-whole : length s < 2 ^ 64 → (m : ℕ) → m ≡ c .bytes + 4 + n → Fits w64 m
+          start-whole big m w =
+              let z = read-is in
+              let i : n ≡ read .bytes = cc in
+              omega (arith, all-fits)
+
+          pub start-fired : (m : ℕ) → m ≡ c .bytes + 4 + n
+              → S.At (record { plus = c .plus; status = c .status; trigger = x; on = true; bytes = m }) ≡ asStart s (begun (map named es) (map named ss) 0 s)
+          start-fired m w =
+              let z = read-is in
+              let y : x ≡ asTrigger (read .value) = cc in
+              let i : n ≡ read .bytes = cc in
+              let q : begun (map named es) (map named ss) 0 s ≡ got (record { sign = changed .value .sign; status = changed .value .status; trigger = read .value; on = true }) 0 (drop (c .bytes + 4 + read .bytes) s)
+              = fired _ (read .reads 0 ∙ ap (λ w. got (read .value) 0 w) (ap (drop (read .bytes)) v-is ∙ drop-drop (read .bytes) (c .bytes + 4) s)) in
+              let g : c .plus ≡ isPlus (changed .value .sign) = ap (λ (c : Start). c .plus) (changed .same) in
+              let st : c .status ≡ changed .value .status = ap (λ (c : Start). c .status) (changed .same) in
+              let same : _≡_ {A = StartRead} (S.At (record { plus = c .plus; status = c .status; trigger = x; on = true; bytes = m }))
+              (startAt (record { sign = changed .value .sign; status = changed .value .status; trigger = read .value; on = true }) m) = cc in
+              same ∙ answers-found startAt S.Refused (begun (map named es) (map named ss)) s _ 0 (c .bytes + 4 + read .bytes) m all-fits q (omega arith)
 
 pub ruleset starting = (start-refused, start-plain, start-unfired, start-fired, start-on, start-whole)
-
--- the whole start, for the line's reader
-pub told-begun : (es ss : List Name) (s : List ℕ) → Told Any (begun es ss) s
-unfolding begun
-told-begun es ss s =
-    told-bind Bare Any (change ss) _ s (told-change ss s) (λ b u h. told-bind Any Any (stands (text " on ")) _ u (told-stands (text " on ") u)
-    (λ on v k. told-bind Any Any (choose on (trigger [] es ss) (give M.Trigger.always)) _ v (told-choose Any on _ _ v (λ e. told-trigger [] es ss v) (λ e. told-give Any M.Trigger.always v tt))
-    (λ t w j. told-give Any _ w tt)))

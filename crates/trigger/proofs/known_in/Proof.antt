@@ -1,9 +1,9 @@
 -- The whole table is its part from 0 up to its length.
 -- Assumes nothing.
 use borrow.Author.Needs.{needs}
-use Rattle.rules.proofs.Pieces.{known-all}
-use Rattle.rules.proofs.known_in.Statement.{statement}
-use Rattle.rules.proofs.known_in.Tie as tie
+use Rattle.trigger.proofs.Pieces.{known-all}
+use Rattle.trigger.proofs.known_in.Statement.{statement}
+use Rattle.trigger.proofs.known_in.Tie as tie
 
 known-name-requires : tie.Need-known-name-requires
 known-name-requires c κs = search needs

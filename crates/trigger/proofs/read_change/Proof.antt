@@ -1,9 +1,9 @@
 -- A line begins with a sign and a known status: the first piece that is refused decides.
 -- Assumes nothing.
 use borrow.Author.Needs.{needs}
-use Rattle.rules.proofs.Pieces.{changing}
-use Rattle.rules.proofs.read_change.Statement.{statement}
-use Rattle.rules.proofs.read_change.Tie as tie
+use Rattle.trigger.proofs.Pieces.{changing}
+use Rattle.trigger.proofs.read_change.Statement.{statement}
+use Rattle.trigger.proofs.read_change.Tie as tie
 
 sign-requires : tie.Need-sign-requires
 sign-requires c κs = search needs

@@ -1,9 +1,9 @@
 -- A trigger is an event where no sign stands, otherwise a status behind the sign.
 -- Assumes nothing.
 use borrow.Author.Needs.{needs}
-use Rattle.rules.proofs.Pieces.{triggering}
-use Rattle.rules.proofs.read_trigger.Statement.{statement}
-use Rattle.rules.proofs.read_trigger.Tie as tie
+use Rattle.trigger.proofs.Pieces.{triggering}
+use Rattle.trigger.proofs.read_trigger.Statement.{statement}
+use Rattle.trigger.proofs.read_trigger.Tie as tie
 
 sign-requires : tie.Need-sign-requires
 sign-requires c κs = search needs

@@ -1,9 +1,9 @@
 -- An event trigger is a known event: what the name piece answers is handed on.
 -- Assumes nothing.
 use borrow.Author.Needs.{needs}
-use Rattle.rules.proofs.Pieces.{eventing}
-use Rattle.rules.proofs.event_trigger.Statement.{statement}
-use Rattle.rules.proofs.event_trigger.Tie as tie
+use Rattle.trigger.proofs.Pieces.{eventing}
+use Rattle.trigger.proofs.event_trigger.Statement.{statement}
+use Rattle.trigger.proofs.event_trigger.Tie as tie
 
 known-in-requires : tie.Need-known-in-requires
 known-in-requires c κs = search needs
