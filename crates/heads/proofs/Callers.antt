@@ -18,8 +18,8 @@ use Rattle.theory.specs.Formed.{Well}
 use Rattle.theory.specs.Sheets.{heads-well}
 use Rattle.tables.specs.Heads.{asHeads, headsOf, Sized}
 use Rattle.tables.proofs.Tables as Tables
-use Rattle.heads.specs.declared.HeadsRead.{HeadsRead}
-use Rattle.heads.specs.Answers.{asHeadsRead}
+use Rattle.fields.specs.declared.HeadsRead.{HeadsRead}
+use Rattle.fields.specs.Answers.{asHeadsRead}
 
 -- the sheet that was read
 pub record Read (s : List ℕ) (r : HeadsRead) : Type 0 where

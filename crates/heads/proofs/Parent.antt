@@ -23,7 +23,7 @@ use Rattle.text.specs.Answers.{asKnown}
 use Rattle.text.proofs.Callers.{known-wrong, known-got, known-place, known-fits, begins-fits, stands-here, stands-not}
 use Rattle.heads.specs.declared.Under.{Under}
 use Rattle.heads.specs.declared.Under.the-variants as U
-use Rattle.heads.specs.Answers.{knownFault}
+use Rattle.events.specs.Answers.{knownFault}
 use Rattle.heads.specs.Parts.{underPiece}
 use Rattle.heads.specs.Held.{UnderRead}
 

@@ -28,10 +28,11 @@ use Rattle.heads.specs.declared.Under.{Under}
 use Rattle.heads.specs.declared.Under.the-variants as U
 use Rattle.heads.specs.declared.StatusLine.{StatusLine}
 use Rattle.heads.specs.declared.StatusLine.the-variants as S
-use Rattle.heads.specs.Answers.{nameFault, underFault}
+use Rattle.fields.specs.Answers.{nameFault}
+use Rattle.heads.specs.Answers.{underFault}
 use Rattle.heads.specs.Parts.{underPiece}
 use Rattle.heads.specs.Held.{UnderRead, StatusIs, StatusNot, StatusRead}
-use Rattle.heads.proofs.Sections.{line-not, again-packed}
+use Rattle.fields.proofs.Sections.{line-not, again-packed}
 
 -- A ROW, by what its pieces gave
 closing : Name → Option ℕ → Reader Status

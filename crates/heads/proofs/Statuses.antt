@@ -23,14 +23,18 @@ use Rattle.text.proofs.Callers.{new-name-wrong, new-name-got, new-name-number, 
 use Rattle.tables.specs.declared.Heads.{Heads}
 use Rattle.tables.specs.Heads.{padded, asHeads, allNames, underCode}
 use Rattle.tables.proofs.Padded.{again-more, names-set, padded-set}
-use Rattle.heads.specs.declared.HeadsRead.{HeadsRead}
+use Rattle.fields.specs.declared.HeadsRead.{HeadsRead}
 use Rattle.heads.specs.declared.StatusLine.{StatusLine}
 use Rattle.heads.specs.declared.StatusLine.the-variants as S
-use Rattle.heads.specs.Answers.{refusal, statusFault}
-use Rattle.heads.specs.Parts.{used, sheetOf, statusKey, statusRow, statusRoom, withStatuses, beforePart, stagesPart, milesPart, statusesPart, underPiece}
-use Rattle.heads.specs.Held.{nextLine, Plain, NoStatuses, Behind, Reads, StatusIs, StatusNot, StatusRead}
-use Rattle.heads.proofs.Rows.{names-count, names-so-far, stages-known, fields-held, events-held, stages-held, miles-held}
-use Rattle.heads.proofs.Sections.{line-not, again-packed, reads-wrong, reads-handed, Going, going-over, going-full, going-wrong, going-more}
+use Rattle.fields.specs.Answers.{refusal}
+use Rattle.heads.specs.Answers.{statusFault}
+use Rattle.fields.specs.Parts.{used, sheetOf}
+use Rattle.heads.specs.Parts.{statusKey, statusRow, statusRoom, withStatuses, beforePart, stagesPart, milesPart, statusesPart, underPiece}
+use Rattle.fields.specs.Held.{nextLine, Plain, Reads}
+use Rattle.events.specs.Held.{NoStatuses}
+use Rattle.heads.specs.Held.{Behind, StatusIs, StatusNot, StatusRead}
+use Rattle.fields.proofs.Rows.{names-count, names-so-far, stages-known, fields-held, events-held, stages-held, miles-held}
+use Rattle.fields.proofs.Sections.{line-not, again-packed, reads-wrong, reads-handed, Going, going-over, going-full, going-wrong, going-more}
 
 -- stages and miles are read alike
 row-is : (miles : Bool) (sh : Sheet) (so : List Status) (l : ℕ) (t : List ℕ)

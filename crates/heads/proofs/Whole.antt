@@ -10,10 +10,13 @@ use Rattle.meaning.specs.Name.{Name, name}
 use Rattle.meaning.specs.Sheet.{Sheet, Event, Status, eventNames}
 use Rattle.meaning.specs.ReadSheet.{heads, section, fieldRow, eventRow, stageRow, mileRow}
 use Rattle.theory.specs.Readers.{after-after}
-use Rattle.heads.specs.declared.HeadsRead.{HeadsRead}
-use Rattle.heads.specs.Answers.{asHeadsRead}
-use Rattle.heads.specs.Parts.{sheetOf, withFields, modelPart, fieldsPart, eventsPart, stagesPart, milesPart}
-use Rattle.heads.specs.Held.{Behind, Reads}
+use Rattle.fields.specs.declared.HeadsRead.{HeadsRead}
+use Rattle.fields.specs.Answers.{asHeadsRead}
+use Rattle.fields.specs.Parts.{sheetOf, withFields, modelPart, fieldsPart}
+use Rattle.events.specs.Parts.{eventsPart}
+use Rattle.heads.specs.Parts.{stagesPart, milesPart}
+use Rattle.fields.specs.Held.{Reads}
+use Rattle.heads.specs.Held.{Behind}
 
 heads-parts : (l : ℕ) (s : List ℕ) → heads l s ≡ milesPart l s
 unfolding heads modelPart fieldsPart eventsPart stagesPart milesPart

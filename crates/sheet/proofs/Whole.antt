@@ -23,8 +23,8 @@ use Rattle.theory.specs.Suffix.{built-leaves, end-is}
 use Rattle.text.specs.Packed.{named}
 use Rattle.tables.specs.declared.Heads.{Heads}
 use Rattle.tables.specs.Heads.{blank, allNames, asHeads}
-use Rattle.heads.specs.declared.HeadsRead.{HeadsRead}
-use Rattle.heads.specs.Answers.{asHeadsRead}
+use Rattle.fields.specs.declared.HeadsRead.{HeadsRead}
+use Rattle.fields.specs.Answers.{asHeadsRead}
 use Rattle.rules.specs.declared.Rules.{Rules}
 use Rattle.rules.specs.declared.RulesRead.{RulesRead}
 use Rattle.rules.specs.Answers.{allWords, asRules, asRulesRead, wordsSpace, Ready}
