@@ -1,6 +1,6 @@
 -- The pieces of an event line: the returns of `event_name` and `next_field`.
 use Prim.Native.Nat.{ℕ, suc, _+_, _-_, _^_, _<_, _≤_}
-use mathlib.Core.Path.{_≡_, refl, sym, _∙_, ap}
+use mathlib.Core.Path.{_≡_, refl, sym, _∙_}
 use mathlib.Core.Bool.{Bool, true, false, not}
 use mathlib.Core.List.{List, [], _∷_, _++_}
 use mathlib.Core.Logic.{inl, inr}
@@ -11,22 +11,20 @@ use lib.Seq.{drop-drop}
 use mir.Val.{Fits}
 use mir.Syntax.{w64}
 use Rattle.meaning.specs.Text.{text, begins, isIn}
-use Rattle.meaning.specs.Reading.{got, wrong, lineEnd, stands}
+use Rattle.meaning.specs.Reading.{got, wrong}
 use Rattle.meaning.specs.Name.{Name, newName, known}
 use Rattle.meaning.specs.ReadSheet.{carried}
 use Rattle.theory.specs.Built.{newName-built, known-built}
 use Rattle.theory.specs.Faults.{never-zero}
-use Rattle.text.specs.Packed.{packed, named}
 use Rattle.text.specs.declared.NamePiece.{NamePiece}
 use Rattle.text.specs.declared.NamePiece.the-variants as N
 use Rattle.text.specs.declared.Known.{Known}
 use Rattle.text.specs.declared.Known.the-variants as K
 use Rattle.text.specs.Answers.{asName, asKnown}
 use Rattle.text.proofs.Callers.{new-name-wrong, new-name-got, new-name-number, new-name-named, new-name-fits, known-wrong, known-got, known-place, known-fits, begins-fits, stands-here, stands-not}
-use Rattle.events.specs.declared.EventName.{EventName}
 use Rattle.events.specs.declared.EventName.the-variants as E
 use Rattle.fields.specs.Answers.{nameFault}
-use Rattle.events.specs.Held.{NameIs, LeftWith, EventNameRead, FieldIs, FieldNot, FieldRead}
+use Rattle.events.specs.Held.{EventNameRead, FieldRead}
 use Rattle.fields.proofs.Sections.{again-packed}
 
 -- THE KEY AND THE NAME

@@ -1,18 +1,13 @@
 -- The event lines: one line, by what its pieces gave; the tables with one event more; where the section stands.
-use Prim.Native.Nat.{ℕ, zero, suc, _+_, _-_, _*_, _^_, _<_, _≤_}
-use mathlib.Core.Path.{_≡_, refl, sym, _∙_, ap, subst}
-use mathlib.Core.Bool.{Bool, true, false, not}
+use Prim.Native.Nat.{ℕ, suc, _+_, _-_, _*_, _^_, _<_, _≤_}
+use mathlib.Core.Path.{_≡_, refl, sym}
+use mathlib.Core.Bool.{false}
 use mathlib.Core.List.{List, [], _∷_, _++_, map, append-nil, append-assoc, map-append}
 use native.Mathlib.Omega.{arith}
-use native.Mathlib.Nat.{mul-add}
-use borrow.Author.Tests.{not-true, not-false}
-use lib.ListN.{length, take, drop, set, replicate, length-append, length-drop, length-map, length-replicate}
-use lib.Seq.{drop-drop}
-use mir.Val.{Fits}
-use mir.Syntax.{w64, w8}
-use Rattle.meaning.specs.Text.{text, begins, isIn, joined}
-use Rattle.meaning.specs.Reading.{Got, got, wrong, Reader, after, give, lineEnd, stands}
-use Rattle.meaning.specs.Name.{Name, newName, known}
+use lib.ListN.{length, take, drop, set, replicate, length-append, length-map}
+use Rattle.meaning.specs.Text.{text, joined}
+use Rattle.meaning.specs.Reading.{got, wrong, Reader, after, give, lineEnd}
+use Rattle.meaning.specs.Name.{Name, newName}
 use Rattle.meaning.specs.Sheet.{Sheet, Event, eventNames, statusNames, statuses}
 use Rattle.meaning.specs.ReadSheet.{carried, eventRow}
 use Rattle.theory.specs.Lists.{joined-more}
@@ -21,12 +16,12 @@ use Rattle.tables.specs.declared.Heads.{Heads}
 use Rattle.tables.specs.Heads.{padded, asHeads, allNames}
 use Rattle.tables.proofs.Padded.{again-more, names-set, padded-set, padded-more, padded-part, padded-length}
 use Rattle.fields.specs.declared.HeadsRead.{HeadsRead}
-use Rattle.fields.specs.Parts.{sheetOf, fieldsPart}
+use Rattle.fields.specs.Parts.{fieldsPart}
 use Rattle.events.specs.Parts.{withEvents, eventsPart}
-use Rattle.fields.specs.Held.{nextLine, carriedRow, Plain, NoEvents, Reads}
+use Rattle.fields.specs.Held.{carriedRow, Plain, NoEvents, Reads}
 use Rattle.events.specs.Held.{NoStatuses}
 use Rattle.fields.proofs.Rows.{names-count}
-use Rattle.fields.proofs.Sections.{reads-handed, Going}
+use Rattle.fields.proofs.Sections.{reads-handed, Going, going-start}
 
 -- THE LINE
 pub ending : Name → List ℕ → Reader Event
@@ -176,10 +171,4 @@ module _ (s : List ℕ) (before : HeadsRead) (read : Reads NoEvents s (fieldsPar
 
   pub events-start : before .number ≡ 0 → length s * 1 < 2 ^ 63 → Events s (before .heads) (before .at)
   unfolding eventsPart
-  events-start z small =
-      let c = read .came z in
-      let j : nextLine (c .sheet) ≡ nextLine (withEvents (c .sheet) []) = ap nextLine (c .rest) in
-      record {
-        sheet = c .sheet;
-        going = record { so = []; is = c .heads ∙ ap asHeads (c .rest); plain = subst Plain (c .rest) (c .plain); few = omega arith; short = omega arith; within = c .within; same = rw (c .same, j) };
-      }
+  events-start z small = let c = read .came z in record { sheet = c .sheet; going = going-start c (c .rest) small (rw (c .same)) }

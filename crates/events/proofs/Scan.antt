@@ -1,5 +1,5 @@
 -- The nested scan of event lines and of the fields that they carry: each way out, and on to the next piece or line.
-use Prim.Native.Nat.{ℕ, zero, suc, _+_, _-_, _*_, _^_, _<_, _≤_}
+use Prim.Native.Nat.{ℕ, suc, _+_, _-_, _*_, _<_, _≤_}
 use mathlib.Core.Path.{_≡_, refl, sym, _∙_, ap, subst}
 use mathlib.Core.Bool.{Bool, true, false, not}
 use mathlib.Core.List.{List, [], _∷_, _++_, map}
@@ -10,9 +10,9 @@ use lib.ListN.{length, take, drop, set, length-append, length-drop}
 use lib.Seq.{drop-drop}
 use mir.Val.{Fits}
 use mir.Syntax.{w64, w8}
-use Rattle.meaning.specs.Text.{text, begins, isIn, joined}
-use Rattle.meaning.specs.Reading.{Got, got, wrong, after}
-use Rattle.meaning.specs.Name.{Name, newName, known}
+use Rattle.meaning.specs.Text.{text, begins, joined}
+use Rattle.meaning.specs.Reading.{got, wrong, after}
+use Rattle.meaning.specs.Name.{Name, known}
 use Rattle.meaning.specs.Sheet.{Sheet, Event, eventNames}
 use Rattle.meaning.specs.ReadSheet.{carried, eventRow}
 use Rattle.text.specs.Packed.{packed, named}
@@ -20,18 +20,17 @@ use Rattle.text.specs.declared.Known.{Known}
 use Rattle.text.specs.declared.Known.the-variants as K
 use Rattle.text.proofs.Callers.{begins-fits, line-end-here}
 use Rattle.tables.specs.declared.Heads.{Heads}
-use Rattle.tables.specs.Heads.{asHeads, allNames}
+use Rattle.tables.specs.Heads.{allNames}
 use Rattle.fields.specs.declared.HeadsRead.{HeadsRead}
 use Rattle.events.specs.declared.Fault.{Fault}
 use Rattle.events.specs.declared.EventName.{EventName}
 use Rattle.events.specs.declared.EventName.the-variants as E
-use Rattle.fields.specs.Answers.{refusal}
 use Rattle.events.specs.Answers.{told, leftWith, knownFault}
 use Rattle.events.specs.Parts.{withEvents, eventsPart}
-use Rattle.fields.specs.Held.{nextLine, carriedRow, Plain, Reads}
-use Rattle.events.specs.Held.{NoStatuses, NameIs, LeftWith, EventNameRead, FieldIs, FieldNot, FieldRead}
+use Rattle.fields.specs.Held.{nextLine, carriedRow, Reads}
+use Rattle.events.specs.Held.{NoStatuses, NameIs, EventNameRead, FieldIs, FieldRead}
 use Rattle.fields.proofs.Rows.{names-count, names-so-far, fields-known, fields-held, events-held}
-use Rattle.fields.proofs.Sections.{line-not, reads-wrong, Going, going-over, going-full, going-wrong, going-more}
+use Rattle.fields.proofs.Sections.{line-not, reads-wrong, going-over, going-full, going-wrong, going-more}
 use Rattle.events.proofs.EventPieces.{carried-over, carried-next}
 use Rattle.events.proofs.Events.{ending, event-name, event-is, ending-not, ending-here, carrying, cells, cells-none, cells-set, cells-part, names-events, names-event, plain-event, heads-event, Events, events-handed, events-start}
 
@@ -110,8 +109,8 @@ module _ (s : List ℕ) (h : Heads) (at : ℕ) (i : Events s h at) where
           event-is (i .sheet .fields) (i .going .so) (nextLine sheet) (drop (at + 6) s) (begun .name) (drop (at + k) s)
           (rw (← drop-drop 6 at s, ← drop-drop k at s) (begun .reads (nextLine sheet)))
 
--- PIECES OF A LINE: the tables `old` and the place `from` at its begin, its name w, and the fields so far
-pub record Pieces (s : List ℕ) (e n line w fields : ℕ) (h : Heads) (at count : ℕ) : Type 0 where
+-- A LINE THAT HAS BEGUN: the tables `old` and the place `from` at its begin, and its name w
+pub record Head (s : List ℕ) (e n line w fields : ℕ) : Type 0 where
   pub old : Heads
   pub from : ℕ
   pub begun : Events s old from
@@ -124,13 +123,17 @@ pub record Pieces (s : List ℕ) (e n line w fields : ℕ) (h : Heads) (at count
   pub name : Name
   pub number : w ≡ packed name
   pub again : named (packed name) ≡ name
+
+-- its pieces: the fields so far
+pub record Pieces (s : List ℕ) (e n line w fields : ℕ) (h : Heads) (at count : ℕ) : Type 0 where
+  pub head : Head s e n line w fields
   pub so : List ℕ
   pub count-is : count ≡ length so
   pub few : count ≤ fields
-  pub is : h ≡ carrying (cells (begun .going .so) so) old
+  pub is : h ≡ carrying (cells (head .begun .going .so) so) (head .old)
   pub within : at ≤ length s
-  pub same : eventRow (begun .sheet .fields) (begun .going .so) line (drop (from + 6) s)
-      ≡ after (carried (begun .sheet .fields) (suc fields - count) so line (drop at s)) (ending name)
+  pub same : eventRow (head .begun .sheet .fields) (head .begun .going .so) line (drop (head .from + 6) s)
+      ≡ after (carried (head .begun .sheet .fields) (suc fields - count) so line (drop at s)) (ending (head .name))
 
 module _ (s : List ℕ) (h : Heads) (at : ℕ) (i : Events s h at) (v : List ℕ) (o : EventName) (rest : v ≡ drop at s)
     (read : EventNameRead (map named (take (h .fields + h .events) (h .names))) (h .events) v o) (w k : ℕ) (told : o ≡ E.Name w k) where
@@ -141,18 +144,21 @@ module _ (s : List ℕ) (h : Heads) (at : ℕ) (i : Events s h at) (v : List ℕ
       let f = fields-held h c (i .going .is) in
       let m : suc (h .fields) - 0 ≡ suc (length (i .sheet .fields)) = omega arith in
       record {
-        old = h;
-        from = at;
-        begun = i;
-        stood = x .key;
-        room = x .room;
-        e-is = events-held h c (i .going .is);
-        n-is = sym (numbered s h at i);
-        line-is = refl;
-        fields-is = f;
-        name = x .name;
-        number = x .number;
-        again = x .again;
+        head =
+            record {
+              old = h;
+              from = at;
+              begun = i;
+              stood = x .key;
+              room = x .room;
+              e-is = events-held h c (i .going .is);
+              n-is = sym (numbered s h at i);
+              line-is = refl;
+              fields-is = f;
+              name = x .name;
+              number = x .number;
+              again = x .again;
+            };
         so = [];
         count-is = refl;
         few = omega arith;
@@ -163,28 +169,28 @@ module _ (s : List ℕ) (h : Heads) (at : ℕ) (i : Events s h at) (v : List ℕ
 
 module _ (s : List ℕ) (e n line w fields : ℕ) (h : Heads) (at count : ℕ) (i : Pieces s e n line w fields h at count) where
   abbrev flds : List Name
-  flds = i .begun .sheet .fields
+  flds = i .head .begun .sheet .fields
 
   abbrev evs : List Event
-  evs = i .begun .going .so
+  evs = i .head .begun .going .so
 
   abbrev before : Sheet
-  before = withEvents (i .begun .sheet) (i .begun .going .so)
+  before = withEvents (i .head .begun .sheet) (i .head .begun .going .so)
 
   next-is : line ≡ nextLine before
-  next-is = i .line-is ∙ ap (λ k. 2 + k) (i .n-is)
+  next-is = i .head .line-is ∙ ap (λ k. 2 + k) (i .head .n-is)
 
   small-fields : fields ≤ 16
-  small-fields = omega (arith, i .fields-is, i .begun .going .plain .few-fields)
+  small-fields = omega (arith, i .head .fields-is, i .head .begun .going .plain .few-fields)
 
   left : suc fields - count ≡ suc (fields - count)
   left = omega (arith, i .few)
 
   more-room : length evs < 16
-  more-room = omega (arith, i .e-is, i .room)
+  more-room = omega (arith, i .head .e-is, i .head .room)
 
-  bad-row : (m : ℕ) → eventRow flds evs line (drop (i .from + 6) s) ≡ wrong m line → eventsPart 1 s ≡ wrong m line
-  bad-row m q = rw next-is (going-wrong (i .begun .going) (i .stood) more-room m (rw (← next-is) q))
+  bad-row : (m : ℕ) → eventRow flds evs line (drop (i .head .from + 6) s) ≡ wrong m line → eventsPart 1 s ≡ wrong m line
+  bad-row m q = rw next-is (going-wrong (i .head .begun .going) (i .head .stood) more-room m (rw (← next-is) q))
 
   bad-piece : (m : ℕ) → carried flds (suc (fields - count)) (i .so) line (drop at s) ≡ wrong m line → eventsPart 1 s ≡ wrong m line
   bad-piece m q = bad-row m (i .same ∙ rw (left, q))
@@ -193,27 +199,27 @@ module _ (s : List ℕ) (e n line w fields : ℕ) (h : Heads) (at count : ℕ) (
   pieces-few = omega (arith, small-fields, i .few)
 
   pub pieces-names : n < 64
-  pieces-names = omega (arith, i .n-is, names-count before, i .begun .going .plain .few-fields, i .begun .going .plain .few-events)
+  pieces-names = omega (arith, i .head .n-is, names-count before, i .head .begun .going .plain .few-fields, i .head .begun .going .plain .few-events)
 
   pub pieces-name : Fits w64 (n * 8)
   pieces-name = omega (arith, pieces-names)
 
   pub pieces-room-4 : Fits w64 (16 * e)
-  pieces-room-4 = omega (arith, i .room)
+  pieces-room-4 = omega (arith, i .head .room)
 
   -- a further field
   cell : 16 * e ≡ length (joined carriedRow evs)
-  cell = omega (arith, i .begun .going .plain .carried, i .e-is)
+  cell = omega (arith, i .head .begun .going .plain .carried, i .head .e-is)
 
   module _ (v : List ℕ) (q : Known) (rest : v ≡ drop (at + 1) s) (read : FieldRead (map named (take (fields - 0) (drop 0 (h .names)))) (take count (drop (16 * e) (h .carried))) fields count v q) where
     field-told : (p : Known) → q ≡ p → FieldRead flds (i .so) fields count v p
     field-told p x =
-        let n-is : h .names ≡ i .old .names = ap (λ (g : Heads). g .names) (i .is) in
+        let n-is : h .names ≡ i .head .old .names = ap (λ (g : Heads). g .names) (i .is) in
         let c-is : h .carried ≡ cells evs (i .so) = ap (λ (g : Heads). g .carried) (i .is) in
         let y : map named (take (fields - 0) (drop 0 (h .names))) ≡ flds
-        = ap (λ l. map named (take (fields - 0) (drop 0 l))) n-is ∙ fields-known (i .old) before (i .begun .going .is) (i .begun .going .plain) fields (i .fields-is) in
+        = ap (λ l. map named (take (fields - 0) (drop 0 l))) n-is ∙ fields-known (i .head .old) before (i .head .begun .going .is) (i .head .begun .going .plain) fields (i .head .fields-is) in
         let z : take count (drop (16 * e) (h .carried)) ≡ i .so
-        = ap (λ l. take count (drop (16 * e) l)) c-is ∙ cells-part (i .begun .sheet) evs (i .so) (16 * e) count cell (i .count-is) in
+        = ap (λ l. take count (drop (16 * e) l)) c-is ∙ cells-part (i .head .begun .sheet) evs (i .so) (16 * e) count cell (i .count-is) in
         rw (← y, ← z) (subst (FieldRead (map named (take (fields - 0) (drop 0 (h .names)))) (take count (drop (16 * e) (h .carried))) fields count v) x read)
 
     module _ (f j : ℕ) (given : q ≡ K.At f j) where
@@ -221,16 +227,16 @@ module _ (s : List ℕ) (e n line w fields : ℕ) (h : Heads) (at count : ℕ) (
       field = field-told (K.At f j) given
 
       pub pieces-byte : Fits w8 f
-      pieces-byte = omega (arith, field .place, i .fields-is, small-fields)
+      pieces-byte = omega (arith, field .place, i .head .fields-is, small-fields)
 
       pub pieces-room-3 : Fits w64 (at + 1 + j)
-      pieces-room-3 = omega (arith, i .begun .going .short, field .within, ap length rest, length-drop (at + 1) s, i .within)
+      pieces-room-3 = omega (arith, i .head .begun .going .short, field .within, ap length rest, length-drop (at + 1) s, i .within)
 
       pub pieces-room-5 : Fits w64 (16 * e + count)
-      pieces-room-5 = omega (arith, i .room, small-fields, i .few)
+      pieces-room-5 = omega (arith, i .head .room, small-fields, i .few)
 
       pub pieces-index : 16 * e + count < 256
-      pieces-index = omega (arith, i .room, small-fields, field .room)
+      pieces-index = omega (arith, i .head .room, small-fields, field .room)
 
       pub pieces-room-6 : Fits w64 (count + 1)
       pieces-room-6 = omega (arith, small-fields, i .few)
@@ -241,20 +247,20 @@ module _ (s : List ℕ) (e n line w fields : ℕ) (h : Heads) (at count : ℕ) (
   module _ (b : Bool) (tested : b ≡ begins (32 ∷ []) (drop at s)) where
     -- the line has no further piece
     module _ (t : not b ≡ true) (c : Bool) (feed : c ≡ begins (10 ∷ []) (drop at s)) where
-      over : eventRow flds evs line (drop (i .from + 6) s) ≡ ending (i .name) (i .so) line (drop at s)
+      over : eventRow flds evs line (drop (i .head .from + 6) s) ≡ ending (i .head .name) (i .so) line (drop at s)
       over = i .same ∙ rw (left, carried-over flds (i .so) line (drop at s) (fields - count) (sym tested ∙ not-true b t))
 
       pub pieces-open : not c ≡ true → (x : ℕ) (g : Heads) → Answer s (told (record { number = 2; line = line }) x g)
       pieces-open u x g =
           told-wrong s 2 line x 2 g (λ z. omega arith)
-          (bad-row 2 (over ∙ ending-not (i .name) (i .so) line (drop at s) (line-not line (drop at s) (sym feed ∙ not-true c u)))) refl
+          (bad-row 2 (over ∙ ending-not (i .head .name) (i .so) line (drop at s) (line-not line (drop at s) (sym feed ∙ not-true c u)))) refl
 
       module _ (u : not c ≡ false) where
         fed : at + 1 ≤ length s
         fed = omega (arith, begins-fits (text "\n") (drop at s) (sym feed ∙ not-false c u), length-drop at s, i .within)
 
         pub pieces-room-1 : Fits w64 (at + 1)
-        pieces-room-1 = omega (arith, i .begun .going .short, fed)
+        pieces-room-1 = omega (arith, i .head .begun .going .short, fed)
 
         pub pieces-done : (at′ : ℕ) → at′ ≡ at + 1 → Events s (record {
           model = h .model;
@@ -268,17 +274,17 @@ module _ (s : List ℕ) (e n line w fields : ℕ) (h : Heads) (at count : ℕ) (
           under = h .under;
         }) at′
         pieces-done at′ z =
-            let ev : Event = record { name = i .name; carries = i .so } in
+            let ev : Event = record { name = i .head .name; carries = i .so } in
             let few : length (i .so) ≤ 16 = omega (arith, i .count-is, i .few, small-fields) in
-            let ends = ending-here (i .name) (i .so) line (drop at s) _ (line-end-here 2 line (drop at s) c feed (not-false c u)) in
+            let ends = ending-here (i .head .name) (i .so) line (drop at s) _ (line-end-here 2 line (drop at s) c feed (not-false c u)) in
             record {
-              sheet = i .begun .sheet;
+              sheet = i .head .begun .sheet;
               going =
-                  going-more (i .begun .going) (i .stood) more-room ev _ at′
+                  going-more (i .head .begun .going) (i .head .stood) more-room ev _ at′
                   (rw (← next-is, z, ← drop-drop 1 at s) (over ∙ ends))
-                  (rw (names-event (i .begun .sheet) evs ev) (omega (arith, length-append (allNames before) (i .name ∷ []))))
-                  (heads-event (i .begun .sheet) evs ev few more-room (i .begun .going .plain) h (i .old) (i .is) (i .begun .going .is) e n w count (i .e-is) (i .n-is) (i .number) (i .count-is))
-                  (plain-event (i .begun .sheet) evs ev few more-room (i .begun .going .plain) (i .again))
+                  (rw (names-event (i .head .begun .sheet) evs ev) (omega (arith, length-append (allNames before) (i .head .name ∷ []))))
+                  (heads-event (i .head .begun .sheet) evs ev few more-room (i .head .begun .going .plain) h (i .head .old) (i .is) (i .head .begun .going .is) e n w count (i .head .e-is) (i .head .n-is) (i .head .number) (i .count-is))
+                  (plain-event (i .head .begun .sheet) evs ev few more-room (i .head .begun .going .plain) (i .head .again))
                   (omega (arith, fed));
             }
 
@@ -291,7 +297,7 @@ module _ (s : List ℕ) (e n line w fields : ℕ) (h : Heads) (at count : ℕ) (
       spaced = omega (arith, begins-fits (text " ") (drop at s) space, length-drop at s, i .within)
 
       pub pieces-room-2 : Fits w64 (at + 1)
-      pieces-room-2 = omega (arith, i .begun .going .short, spaced)
+      pieces-room-2 = omega (arith, i .head .begun .going .short, spaced)
 
       module _ (v : List ℕ) (q : Known) (rest : v ≡ drop (at + 1) s)
           (read : FieldRead (map named (take (fields - 0) (drop 0 (h .names)))) (take count (drop (16 * e) (h .carried))) fields count v q) where
@@ -323,22 +329,11 @@ module _ (s : List ℕ) (e n line w fields : ℕ) (h : Heads) (at count : ℕ) (
               let m : suc fields - (count + 1) ≡ fields - count = omega arith in
               let known-is : known flds line (drop 1 (drop at s)) ≡ got f line (drop (at + 1 + j) s) = rw (drop-drop 1 at s, ← drop-drop j (at + 1) s, ← rest) (next .reads line) in
               record {
-                old = i .old;
-                from = i .from;
-                begun = i .begun;
-                stood = i .stood;
-                room = i .room;
-                e-is = i .e-is;
-                n-is = i .n-is;
-                line-is = i .line-is;
-                fields-is = i .fields-is;
-                name = i .name;
-                number = i .number;
-                again = i .again;
+                head = i .head;
                 so = i .so ++ (f ∷ []);
                 count-is = omega (arith, i .count-is, length-append (i .so) (f ∷ []));
                 few = omega (arith, next .room);
-                is = rw (i .is, cells-set (i .begun .sheet) evs (i .so) (16 * e + count) k (pieces-index v q rest read f j given) f);
+                is = rw (i .is, cells-set (i .head .begun .sheet) evs (i .so) (16 * e + count) k (pieces-index v q rest read f j given) f);
                 within = omega (arith, ends);
                 same = i .same ∙ rw (left, m, z, carried-next flds (i .so) line (drop at s) space f (drop (at + 1 + j) s) known-is (fields - count) (next .new));
               }

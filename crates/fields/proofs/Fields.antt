@@ -1,6 +1,6 @@
 -- The field lines: the way into their section, each way out, and on to the next line.
 use Prim.Native.Nat.{ℕ, suc, _+_, _-_, _*_, _^_, _<_, _≤_}
-use mathlib.Core.Path.{_≡_, refl, sym, _∙_, ap, subst}
+use mathlib.Core.Path.{_≡_, refl, sym, _∙_}
 use mathlib.Core.Bool.{Bool, true, false, not}
 use mathlib.Core.List.{List, [], _∷_, _++_, map, append-nil}
 use native.Mathlib.Omega.{arith}
@@ -27,9 +27,9 @@ use Rattle.tables.proofs.Padded.{again-more, names-set}
 use Rattle.fields.specs.declared.HeadsRead.{HeadsRead}
 use Rattle.fields.specs.Answers.{refusal, nameFault}
 use Rattle.fields.specs.Parts.{withFields, modelPart, fieldsPart}
-use Rattle.fields.specs.Held.{nextLine, Plain, NoFields, NoEvents, Reads}
-use Rattle.fields.proofs.Rows.{names-count, names-so-far}
-use Rattle.fields.proofs.Sections.{line-not, again-packed, reads-wrong, reads-handed, Going, going-over, going-full, going-wrong, going-more}
+use Rattle.fields.specs.Held.{nextLine, NoFields, NoEvents, Reads}
+use Rattle.fields.proofs.Rows.{names-so-far}
+use Rattle.fields.proofs.Sections.{line-not, again-packed, reads-wrong, reads-handed, Going, going-start, going-over, going-full, going-wrong, going-more}
 
 -- a row, by what its pieces gave
 module _ (so : List Name) (l : ℕ) (t : List ℕ) where
@@ -58,22 +58,7 @@ module _ (s : List ℕ) (before : HeadsRead) (read : Reads NoFields s (modelPart
 
   pub fields-start : before .number ≡ 0 → length s * 1 < 2 ^ 63 → Fields s (before .heads) (before .at)
   unfolding fieldsPart
-  fields-start z small =
-      let c = read .came z in
-      let j : nextLine (c .sheet) ≡ nextLine (withFields (c .sheet .model) []) = ap nextLine (c .rest) in
-      record {
-        model = c .sheet .model;
-        going =
-            record {
-              so = [];
-              is = c .heads ∙ ap asHeads (c .rest);
-              plain = subst Plain (c .rest) (c .plain);
-              few = omega arith;
-              short = omega arith;
-              within = c .within;
-              same = rw (c .same, j);
-            };
-      }
+  fields-start z small = let c = read .came z in record { model = c .sheet .model; going = going-start c (c .rest) small (rw (c .same)) }
 
 -- one more field
 names-fields : (m : Name) (fs : List Name) → allNames (withFields m fs) ≡ fs

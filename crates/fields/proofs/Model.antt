@@ -1,18 +1,18 @@
 -- The line `model=`: each return of `read_model`.
-use Prim.Native.Nat.{ℕ, suc, _+_, _-_, _^_, _<_, _≤_}
-use mathlib.Core.Path.{_≡_, refl, sym, _∙_, ap}
+use Prim.Native.Nat.{ℕ, _+_, _-_, _^_, _<_, _≤_}
+use mathlib.Core.Path.{_≡_, refl, sym, _∙_}
 use mathlib.Core.Bool.{Bool, true, false, not}
-use mathlib.Core.List.{List, [], _∷_, _++_, map}
+use mathlib.Core.List.{List, [], _∷_}
 use native.Mathlib.Omega.{arith}
 use borrow.Author.Tests.{not-true, not-false}
-use lib.ListN.{length, take, drop, replicate, length-drop}
+use lib.ListN.{length, take, drop, length-drop}
 use lib.Seq.{drop-drop}
 use mir.Val.{Fits}
 use mir.Syntax.{w64}
 use Rattle.meaning.specs.Text.{text, begins, joined}
-use Rattle.meaning.specs.Reading.{Got, got, wrong, due, lineEnd}
+use Rattle.meaning.specs.Reading.{got, wrong, due, lineEnd}
 use Rattle.meaning.specs.Name.{Name, name}
-use Rattle.meaning.specs.Sheet.{Sheet, eventNames, statusNames, statuses}
+use Rattle.meaning.specs.Sheet.{eventNames, statusNames, statuses}
 use Rattle.theory.specs.Built.{name-built}
 use Rattle.theory.specs.Faults.{never-zero}
 use Rattle.text.specs.Packed.{packed}

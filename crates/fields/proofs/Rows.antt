@@ -1,20 +1,15 @@
 -- The tables of a sheet with one row more.
-use Prim.Native.Nat.{ℕ, suc, _+_, _-_, _*_, _<_, _≤_}
-use mathlib.Core.Path.{_≡_, refl, sym, _∙_, ap}
-use mathlib.Core.Bool.{Bool, true, false, cond}
-use mathlib.Core.List.{List, [], _∷_, _++_, map, append-nil, append-assoc, map-append}
-use mathlib.Core.Option.{Option}
+use Prim.Native.Nat.{ℕ, _+_, _-_, _≤_}
+use mathlib.Core.Path.{_≡_}
+use mathlib.Core.List.{[], _++_, map, append-assoc, map-append}
 use native.Mathlib.Omega.{arith}
-use lib.ListN.{length, take, drop, set, replicate, length-append, length-map, length-replicate}
-use lib.Seq.{append-snoc}
-use Rattle.meaning.specs.Text.{joined}
-use Rattle.meaning.specs.Name.{Name}
+use lib.ListN.{length, take, drop, length-append, length-map}
 use Rattle.meaning.specs.Sheet.{Sheet, Event, Status, eventNames, statusNames, statuses}
-use Rattle.text.specs.Packed.{packed, named}
+use Rattle.text.specs.Packed.{named}
 use Rattle.tables.specs.declared.Heads.{Heads}
-use Rattle.tables.specs.Heads.{padded, asHeads, allNames, underCode, Again}
-use Rattle.tables.proofs.Padded.{padded-length, padded-set, padded-more, padded-take, padded-part, names-length, names-set, names-part, names-all, again-append}
-use Rattle.fields.specs.Parts.{sheetOf, used}
+use Rattle.tables.specs.Heads.{asHeads, allNames, Again}
+use Rattle.tables.proofs.Padded.{names-length, names-part, names-all, again-append}
+use Rattle.fields.specs.Parts.{used}
 use Rattle.fields.specs.Held.{Plain}
 
 -- how many names there are

@@ -1,6 +1,6 @@
 -- A section, whatever its rows are: where it stands, and each way on.
-use Prim.Native.Nat.{ℕ, suc, _+_, _-_, _^_, _<_, _≤_}
-use mathlib.Core.Path.{_≡_, refl, sym, _∙_}
+use Prim.Native.Nat.{ℕ, suc, _+_, _-_, _*_, _^_, _<_, _≤_}
+use mathlib.Core.Path.{_≡_, refl, _∙_, ap, subst}
 use mathlib.Core.Bool.{true, false}
 use mathlib.Core.List.{List, [], _∷_, _++_}
 use native.Mathlib.Omega.{arith}
@@ -63,6 +63,15 @@ module _ {A : Type 0} (key : List ℕ) (row : List A → Reader A) (put : List A
     pub short : length s < 2 ^ 63
     pub within : at ≤ length s
     pub same : x ≡ after (section key row (limit - length so) so (nextLine (put so)) (drop at s)) (λ xs. give (put xs))
+
+-- no rows yet
+pub going-start : {A : Type 0} {key : List ℕ} {row : List A → Reader A} {put : List A → Sheet} {limit : ℕ} {Q : Sheet → Type 0} {s : List ℕ} {x y : Got Sheet} {before : HeadsRead}
+    (c : Came Q s x before) → c .sheet ≡ put [] → length s * 1 < 2 ^ 63
+    → y ≡ after (section key row limit [] (nextLine (c .sheet)) (drop (before .at) s)) (λ xs. give (put xs)) → Going key row put limit s y (before .heads) (before .at)
+going-start {limit = limit} c e small q =
+    let j = ap nextLine e in
+    let z : limit - 0 ≡ limit = omega arith in
+    record { so = []; is = c .heads ∙ ap asHeads e; plain = subst Plain e (c .plain); few = omega arith; short = omega arith; within = c .within; same = q ∙ rw (j, z) }
 
 module _ {A : Type 0} {key : List ℕ} {row : List A → Reader A} {put : List A → Sheet} {limit : ℕ} {s : List ℕ} {x : Got Sheet} {h : Heads} {at : ℕ}
     (i : Going key row put limit s x h at) where

@@ -2,7 +2,7 @@
 use Prim.Native.Nat.{ℕ, suc, _+_, _-_, _*_, _^_, _≤_, _<_}
 use mathlib.Core.Path.{_≡_, refl, sym, _∙_, ap}
 use mathlib.Core.Bool.{Bool, true, false, not, _||_}
-use mathlib.Core.List.{List, [], _∷_, _++_, map}
+use mathlib.Core.List.{List, [], _∷_, map}
 use mathlib.Core.Option.{Option, none, some}
 use native.Mathlib.Omega.{arith}
 use borrow.Author.Tests.{not-true, not-false}
@@ -11,7 +11,7 @@ use lib.Seq.{drop-drop, length-sets, length-take-le}
 use mir.Val.{Fits}
 use mir.Syntax.{w64}
 use Rattle.meaning.specs.Text.{text, begins}
-use Rattle.meaning.specs.Reading.{Got, got, wrong, Reader, after, _>>=_, _>>_, give, stands, lineEnd, due}
+use Rattle.meaning.specs.Reading.{Got, got, wrong, Reader, after, _>>_, give, lineEnd, due}
 use Rattle.meaning.specs.Condition.{Cond}
 use Rattle.meaning.specs.Sheet.{leavesOf}
 use Rattle.meaning.specs.ReadCondition.{condition}

@@ -11,7 +11,7 @@ use lib.Seq.{drop-drop, take-length}
 use mir.Val.{Fits}
 use mir.Syntax.{w8, w64}
 use Rattle.meaning.specs.Text.{text, begins}
-use Rattle.meaning.specs.Reading.{Got, got, wrong, Reader, after, give, choose, stands, oneOf}
+use Rattle.meaning.specs.Reading.{Got, got, wrong, Reader, after, give, stands, oneOf}
 use Rattle.meaning.specs.Name.{Name, known}
 use Rattle.meaning.specs.Sheet as M
 use Rattle.meaning.specs.Sheet.{Sign, plus, minus}
