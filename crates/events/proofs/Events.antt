@@ -20,7 +20,7 @@ use Rattle.fields.specs.Parts.{fieldsPart}
 use Rattle.events.specs.Parts.{withEvents, eventsPart}
 use Rattle.fields.specs.Held.{carriedRow, Plain, NoEvents, Reads}
 use Rattle.events.specs.Held.{NoStatuses}
-use Rattle.fields.proofs.Rows.{names-count}
+use Rattle.fields.proofs.Rows.{names-count, tabled}
 use Rattle.fields.proofs.Sections.{reads-handed, Going, going-start}
 
 -- THE LINE
@@ -50,17 +50,7 @@ module _ (w : Name) (fs : List ℕ) (l : ℕ) (t : List ℕ) where
 -- the tables where the fields carried are cs
 abbrev pub carrying : List ℕ → Heads → Heads
 carrying cs h =
-    record {
-      model = h .model;
-      fields = h .fields;
-      events = h .events;
-      stages = h .stages;
-      miles = h .miles;
-      names = h .names;
-      carried = cs;
-      carries = h .carries;
-      under = h .under;
-    }
+    tabled (h .model) (h .fields) (h .events) (h .stages) (h .miles) (h .names) cs (h .carries) (h .under)
 
 -- behind the rows of the events so far stand the fields of the one that is read
 abbrev pub cells : List Event → List ℕ → List ℕ
@@ -143,17 +133,7 @@ module _ (sh : Sheet) (so : List Event) where
             let k : x ≡ length (map many so) = omega (arith, length-map so many) in
             rw (old-is, map-append many so (e ∷ []), k, count-is) (padded-set 16 0 (map many so) (length (e .carries)) (omega (arith, length-map so many)))
 
-        pub heads-event : record {
-          model = h .model;
-          fields = h .fields;
-          events = x + 1;
-          stages = h .stages;
-          miles = h .miles;
-          names = set (h .names) n v;
-          carried = h .carried;
-          carries = set (h .carries) x count;
-          under = h .under;
-        } ≡ asHeads (withEvents sh (so ++ (e ∷ [])))
+        pub heads-event : tabled (h .model) (h .fields) (x + 1) (h .stages) (h .miles) (set (h .names) n v) (h .carried) (set (h .carries) x count) (h .under) ≡ asHeads (withEvents sh (so ++ (e ∷ [])))
         unfolding asHeads statuses
         heads-event =
             let k : x + 1 ≡ length (so ++ (e ∷ [])) = omega (arith, length-append so (e ∷ [])) in

@@ -29,7 +29,7 @@ use Rattle.events.specs.Answers.{told, leftWith, knownFault}
 use Rattle.events.specs.Parts.{withEvents, eventsPart}
 use Rattle.fields.specs.Held.{nextLine, carriedRow, Reads}
 use Rattle.events.specs.Held.{NoStatuses, NameIs, EventNameRead, FieldIs, FieldRead}
-use Rattle.fields.proofs.Rows.{names-count, names-so-far, fields-known, fields-held, events-held}
+use Rattle.fields.proofs.Rows.{names-count, names-so-far, fields-known, fields-held, events-held, tabled}
 use Rattle.fields.proofs.Sections.{line-not, reads-wrong, going-over, going-full, going-wrong, going-more}
 use Rattle.events.proofs.EventPieces.{carried-over, carried-next}
 use Rattle.events.proofs.Events.{ending, event-name, event-is, ending-not, ending-here, carrying, cells, cells-none, cells-set, cells-part, names-events, names-event, plain-event, heads-event, Events, events-handed, events-start}
@@ -262,17 +262,7 @@ module _ (s : List ℕ) (e n line w fields : ℕ) (h : Heads) (at count : ℕ) (
         pub pieces-room-1 : Fits w64 (at + 1)
         pieces-room-1 = omega (arith, i .head .begun .going .short, fed)
 
-        pub pieces-done : (at′ : ℕ) → at′ ≡ at + 1 → Events s (record {
-          model = h .model;
-          fields = h .fields;
-          events = e + 1;
-          stages = h .stages;
-          miles = h .miles;
-          names = set (h .names) n w;
-          carried = h .carried;
-          carries = set (h .carries) e count;
-          under = h .under;
-        }) at′
+        pub pieces-done : (at′ : ℕ) → at′ ≡ at + 1 → Events s (tabled (h .model) (h .fields) (e + 1) (h .stages) (h .miles) (set (h .names) n w) (h .carried) (set (h .carries) e count) (h .under)) at′
         pieces-done at′ z =
             let ev : Event = record { name = i .head .name; carries = i .so } in
             let few : length (i .so) ≤ 16 = omega (arith, i .count-is, i .few, small-fields) in
@@ -313,17 +303,7 @@ module _ (s : List ℕ) (e n line w fields : ℕ) (h : Heads) (at count : ℕ) (
           ends : at + 1 + j ≤ length s
           ends = omega (arith, next .within, ap length rest, length-drop (at + 1) s, spaced)
 
-          pub pieces-more : (at′ : ℕ) → at′ ≡ at + 1 + j → Pieces s e n line w fields (record {
-            model = h .model;
-            fields = h .fields;
-            events = h .events;
-            stages = h .stages;
-            miles = h .miles;
-            names = h .names;
-            carried = set (h .carried) (16 * e + count) f;
-            carries = h .carries;
-            under = h .under;
-          }) at′ (count + 1)
+          pub pieces-more : (at′ : ℕ) → at′ ≡ at + 1 + j → Pieces s e n line w fields (tabled (h .model) (h .fields) (h .events) (h .stages) (h .miles) (h .names) (set (h .carried) (16 * e + count) f) (h .carries) (h .under)) at′ (count + 1)
           pieces-more at′ z =
               let k : 16 * e + count ≡ length (joined carriedRow evs) + length (i .so) = omega (arith, cell, i .count-is) in
               let m : suc fields - (count + 1) ≡ fields - count = omega arith in

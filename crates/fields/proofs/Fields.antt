@@ -28,7 +28,7 @@ use Rattle.fields.specs.declared.HeadsRead.{HeadsRead}
 use Rattle.fields.specs.Answers.{refusal, nameFault}
 use Rattle.fields.specs.Parts.{withFields, modelPart, fieldsPart}
 use Rattle.fields.specs.Held.{nextLine, NoFields, NoEvents, Reads}
-use Rattle.fields.proofs.Rows.{names-so-far}
+use Rattle.fields.proofs.Rows.{names-so-far, tabled}
 use Rattle.fields.proofs.Sections.{line-not, again-packed, reads-wrong, reads-handed, Going, going-start, going-over, going-full, going-wrong, going-more}
 
 -- a row, by what its pieces gave
@@ -67,17 +67,7 @@ names-fields m fs = simp append-nil
 
 module _ (m : Name) (so : List Name) (w : Name) where
   module _ (h : Heads) (is : h ≡ asHeads (withFields m so)) (v : ℕ) (number : v ≡ packed w) (room : length so < 16) where
-    heads-field : record {
-      model = h .model;
-      fields = h .fields + 1;
-      events = h .events;
-      stages = h .stages;
-      miles = h .miles;
-      names = set (h .names) (h .fields) v;
-      carried = h .carried;
-      carries = h .carries;
-      under = h .under;
-    } ≡ asHeads (withFields m (so ++ (w ∷ [])))
+    heads-field : tabled (h .model) (h .fields + 1) (h .events) (h .stages) (h .miles) (set (h .names) (h .fields) v) (h .carried) (h .carries) (h .under) ≡ asHeads (withFields m (so ++ (w ∷ [])))
     unfolding asHeads statuses
     heads-field =
         let k : length (so ++ (w ∷ [])) ≡ length so + 1 = length-append so (w ∷ []) in
@@ -175,17 +165,7 @@ module _ (s : List ℕ) (h : Heads) (at : ℕ) (i : Fields s h at) where
               pub fields-room-3 : Fits w64 (at + 6 + k + 1)
               fields-room-3 = omega (arith, i .going .short, fed)
 
-              pub fields-more : (at′ : ℕ) → at′ ≡ at + 6 + k + 1 → Fields s (record {
-                model = h .model;
-                fields = h .fields + 1;
-                events = h .events;
-                stages = h .stages;
-                miles = h .miles;
-                names = set (h .names) (h .fields) w;
-                carried = h .carried;
-                carries = h .carries;
-                under = h .under;
-              }) at′
+              pub fields-more : (at′ : ℕ) → at′ ≡ at + 6 + k + 1 → Fields s (tabled (h .model) (h .fields + 1) (h .events) (h .stages) (h .miles) (set (h .names) (h .fields) w) (h .carried) (h .carries) (h .under)) at′
               fields-more at′ z =
                   let ends = line-end-here 2 (nextLine here) (drop (at + 6 + k) s) c feed (not-false c u) in
                   let good = field-good (i .going .so) (nextLine here) (drop (at + 6) s) name (drop (at + 6 + k) s) got-name _ ends in

@@ -26,6 +26,7 @@ use Rattle.fields.specs.declared.HeadsRead.{HeadsRead}
 use Rattle.fields.specs.Answers.{refusal, nameFault}
 use Rattle.fields.specs.Parts.{withFields, modelPart}
 use Rattle.fields.specs.Held.{Plain, NoFields, Reads}
+use Rattle.fields.proofs.Rows.{tabled}
 use Rattle.fields.proofs.Sections.{reads-wrong, reads-got, line-not}
 
 -- the line, by what its pieces gave
@@ -49,17 +50,7 @@ module _ (s : List ℕ) where
       model-good v e = rw (key, read, e)
 
 -- the tables of a sheet that has a model alone
-model-tables : (h : Heads) → h ≡ blank → (v : ℕ) (w : Name) → v ≡ packed w → record {
-  model = v;
-  fields = h .fields;
-  events = h .events;
-  stages = h .stages;
-  miles = h .miles;
-  names = h .names;
-  carried = h .carried;
-  carries = h .carries;
-  under = h .under;
-} ≡ asHeads (withFields w [])
+model-tables : (h : Heads) → h ≡ blank → (v : ℕ) (w : Name) → v ≡ packed w → tabled v (h .fields) (h .events) (h .stages) (h .miles) (h .names) (h .carried) (h .carries) (h .under) ≡ asHeads (withFields w [])
 unfolding asHeads padded allNames eventNames statusNames statuses joined
 model-tables h e v w q = rw (e, q)
 
@@ -122,18 +113,7 @@ module _ (s : List ℕ) where
               number = 0;
               line = 2;
               at = at;
-              heads =
-                  record {
-                    model = w;
-                    fields = h .fields;
-                    events = h .events;
-                    stages = h .stages;
-                    miles = h .miles;
-                    names = h .names;
-                    carried = h .carried;
-                    carries = h .carries;
-                    under = h .under;
-                  };
+              heads = tabled w (h .fields) (h .events) (h .stages) (h .miles) (h .names) (h .carried) (h .carries) (h .under);
             })
             model-read h e at z =
                 let m = take n (drop 6 s) in

@@ -1,7 +1,7 @@
 -- The tables of a sheet with one row more.
 use Prim.Native.Nat.{ℕ, _+_, _-_, _≤_}
 use mathlib.Core.Path.{_≡_}
-use mathlib.Core.List.{[], _++_, map, append-assoc, map-append}
+use mathlib.Core.List.{List, [], _++_, map, append-assoc, map-append}
 use native.Mathlib.Omega.{arith}
 use lib.ListN.{length, take, drop, length-append, length-map}
 use Rattle.meaning.specs.Sheet.{Sheet, Event, Status, eventNames, statusNames, statuses}
@@ -11,6 +11,10 @@ use Rattle.tables.specs.Heads.{asHeads, allNames, Again}
 use Rattle.tables.proofs.Padded.{names-length, names-part, names-all, again-append}
 use Rattle.fields.specs.Parts.{used}
 use Rattle.fields.specs.Held.{Plain}
+
+-- tables, by what they hold
+abbrev pub tabled : ℕ → ℕ → ℕ → ℕ → ℕ → List ℕ → List ℕ → List ℕ → List ℕ → Heads
+tabled m f e s x ns cd cs u = record { model = m; fields = f; events = e; stages = s; miles = x; names = ns; carried = cd; carries = cs; under = u }
 
 -- how many names there are
 pub names-count : (sh : Sheet) → length (allNames sh) ≡ length (sh .fields) + length (sh .events) + (length (sh .stages) + length (sh .miles))

@@ -29,7 +29,7 @@ use Rattle.heads.specs.Parts.{statusKey, statusRow, statusRoom, withStat
 use Rattle.fields.specs.Held.{nextLine, Plain, Reads}
 use Rattle.events.specs.Held.{NoStatuses}
 use Rattle.heads.specs.Held.{Behind, StatusIs, StatusRead}
-use Rattle.fields.proofs.Rows.{names-count, names-so-far, stages-known, fields-held, events-held, stages-held, miles-held}
+use Rattle.fields.proofs.Rows.{names-count, names-so-far, stages-known, fields-held, events-held, stages-held, miles-held, tabled}
 use Rattle.fields.proofs.Sections.{reads-wrong, reads-handed, Going, going-start, going-over, going-full, going-wrong, going-more}
 
 -- stages and miles are read alike
@@ -66,17 +66,7 @@ module _ (sh : Sheet) (so : List Status) (a : Status) where
   module _ (h : Heads) (v u x n mile stage : ℕ) (name : v ≡ packed (a .name)) (under : u ≡ underCode (a .under)) where
     abbrev stored : Heads
     stored =
-        record {
-          model = h .model;
-          fields = h .fields;
-          events = h .events;
-          stages = h .stages + stage;
-          miles = h .miles + mile;
-          names = set (h .names) n v;
-          carried = h .carried;
-          carries = h .carries;
-          under = set (h .under) x u;
-        }
+        tabled (h .model) (h .fields) (h .events) (h .stages + stage) (h .miles + mile) (set (h .names) n v) (h .carried) (h .carries) (set (h .under) x u)
 
     module _ (miles : Bool) (is : h ≡ asHeads (withStatuses miles sh so)) (plain : Plain (withStatuses miles sh so))
         (y : n ≡ length (allNames (withStatuses miles sh so))) (z : x ≡ length (withStatuses miles sh so .stages) + length (withStatuses miles sh so .miles)) (room : x < 32) where
@@ -266,17 +256,7 @@ module _ (s key : List ℕ) (miles : Bool) (mile stage : ℕ) (h : Heads) (at : 
           unfolding statusNames
           statuses-byte = omega (arith, is .small, length-map (here .stages) (λ (x : Status). x .name), roomy)
 
-          pub statuses-more : (at′ : ℕ) → at′ ≡ at + length key + k → Statuses s key miles mile stage (record {
-            model = h .model;
-            fields = h .fields;
-            events = h .events;
-            stages = h .stages + stage;
-            miles = h .miles + mile;
-            names = set (h .names) count w;
-            carried = h .carried;
-            carries = h .carries;
-            under = set (h .under) (h .stages + h .miles) u;
-          }) at′
+          pub statuses-more : (at′ : ℕ) → at′ ≡ at + length key + k → Statuses s key miles mile stage (tabled (h .model) (h .fields) (h .events) (h .stages + stage) (h .miles + mile) (set (h .names) count w) (h .carried) (h .carries) (set (h .under) (h .stages + h .miles) u)) at′
           statuses-more at′ y =
               record {
                 key-is = i .key-is;
