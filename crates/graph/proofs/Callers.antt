@@ -23,11 +23,13 @@ use Rattle.tables.specs.Heads.{padded, underCode}
 use Rattle.verdict.specs.Flat.{word, bit, comparisonWord, leafWord}
 use Rattle.verdict.proofs.Leaves.{words-leaves}
 use Rattle.rules.specs.declared.Rules.{Rules}
-use Rattle.rules.specs.Answers.{isPlus, asTrigger, wordsOf, asRule, asRows, allWords, asRules, noRule}
+use Rattle.trigger.specs.Answers.{isPlus, asTrigger}
+use Rattle.rules.specs.Answers.{nodeOf, wordsOf, asRule, asRows, allWords, asRules, noRule}
+use Rattle.rules.proofs.Callers.{node-same}
 use Rattle.order.specs.declared.Sorting.{Sorting}
 use Rattle.order.specs.Answers.{asSorting}
 use Rattle.order.proofs.Callers.{sort-none, sort-some, sort-below}
-use Rattle.graph.specs.Edges.{nodeOf, triggerNodes, wordNodes, overNodes, ruleNodes, parentNode, closingNodes, tableInto}
+use Rattle.graph.specs.Edges.{triggerNodes, wordNodes, overNodes, ruleNodes, parentNode, closingNodes, tableInto}
 use Rattle.graph.proofs.Laws.{append-none, keep-both, keep-one}
 
 -- THE WORDS OF A CONDITION NAME THE STATUSES OF ITS LEAVES
@@ -102,14 +104,6 @@ unfolding fromHome
 home-same plus none = refl
 home-same plus (some p) = refl
 home-same minus u = refl
-
-node-same : (top : ℕ) (r : M.Rule) → nodeOf (asRule top r) ≡ consequent r
-unfolding asRule consequent
-node-same top r = go (r .sign)
-  where
-    go : (g : Sign) → cond (isPlus g) (up (r .status)) (down (r .status)) ≡ node g (r .status)
-    go plus = refl
-    go minus = refl
 
 keep-cons : {A B : Type 0} (f : A → List B) (q : A → Bool) (x : A) (xs : List A) → joined f (keep q (x ∷ xs)) ≡ cond (q x) (f x) [] ++ joined f (keep q xs)
 keep-cons f q x xs = keep-both f q (x ∷ []) xs ∙ ap (λ l. l ++ joined f (keep q xs)) (keep-one f q x)

@@ -13,15 +13,17 @@ use borrow.Author.Tests.{eq-eqb, ne-eqb, lt-ltb, le-ltb, le-leb, lt-leb, eqb-tru
 use Rattle.meaning.specs.Text.{any, isIn, keep, joined}
 use Rattle.meaning.specs.Graph.{Into, edge, orderFor}
 use Rattle.meaning.specs.Dependency.{up, down, both}
+use Rattle.theory.specs.Lists.{joined-both, joined-one}
 use Rattle.order.specs.declared.Sorting.{Sorting}
 use Rattle.order.specs.Masks.{has, maskInto, withBit}
 use Rattle.order.specs.Answers.{asSorting}
 use Rattle.order.proofs.Callers.{has-with, edges-none, sort-same}
-use Rattle.rules.specs.declared.Trigger.{Trigger}
-use Rattle.rules.specs.declared.Trigger.the-variants.{Always, Event, Rise, Fall}
+use Rattle.trigger.specs.declared.Trigger.{Trigger}
+use Rattle.trigger.specs.declared.Trigger.the-variants.{Always, Event, Rise, Fall}
 use Rattle.rules.specs.declared.Rule.{Rule}
 use Rattle.rules.specs.declared.Rules.{Rules}
-use Rattle.graph.specs.Edges.{nodeOf, triggerNodes, wordNodes, overNodes, ruleNodes, parentNode, closingNodes, tableInto}
+use Rattle.rules.specs.Answers.{nodeOf}
+use Rattle.graph.specs.Edges.{triggerNodes, wordNodes, overNodes, ruleNodes, parentNode, closingNodes, tableInto}
 use Rattle.graph.specs.Added.{toward, rulesInto, Added}
 
 -- ADDING: nothing, these edges and then those, and the same edges otherwise said
@@ -203,16 +205,6 @@ module _ (was : List ℕ) (k c : ℕ) where
 pub ruleset parenting = (parent-none, parent-some)
 
 -- THE WORDS OF A CONDITION
-
-module _ {A B : Type 0} (f : A → List B) where
-  pub joined-both : (xs ys : List A) → joined f (xs ++ ys) ≡ joined f xs ++ joined f ys
-  unfolding joined
-  joined-both [] ys = refl
-  joined-both (x ∷ xs) ys = ap (λ l. f x ++ l) (joined-both xs ys) ∙ sym (append-assoc (f x) (joined f xs) (joined f ys))
-
-  pub joined-one : (x : A) → joined f (x ∷ []) ≡ f x
-  unfolding joined
-  joined-one x = append-none (f x)
 
 -- the nodes of the words at from .. i
 abbrev pub read : List ℕ → ℕ → ℕ → List ℕ

@@ -9,7 +9,8 @@ use Rattle.meaning.specs.Text.{isIn, keep, joined}
 use Rattle.meaning.specs.Graph.{Into}
 use Rattle.order.specs.Masks.{has}
 use Rattle.rules.specs.declared.Rule.{Rule}
-use Rattle.graph.specs.Edges.{nodeOf, ruleNodes}
+use Rattle.rules.specs.Answers.{nodeOf}
+use Rattle.graph.specs.Edges.{ruleNodes}
 
 -- the edges from these nodes to one node
 unfoldable pub toward : ℕ → List ℕ → Into

@@ -7,14 +7,11 @@ use lib.ListN.{getD, take, drop}
 use Rattle.meaning.specs.Text.{keep, joined}
 use Rattle.meaning.specs.Graph.{Into}
 use Rattle.meaning.specs.Dependency.{up, down, both}
-use Rattle.rules.specs.declared.Trigger.{Trigger}
-use Rattle.rules.specs.declared.Trigger.the-variants.{Always, Event, Rise, Fall}
+use Rattle.trigger.specs.declared.Trigger.{Trigger}
+use Rattle.trigger.specs.declared.Trigger.the-variants.{Always, Event, Rise, Fall}
 use Rattle.rules.specs.declared.Rule.{Rule}
 use Rattle.rules.specs.declared.Rules.{Rules}
-
--- the node that a rule sets
-abbrev pub nodeOf : Rule → ℕ
-nodeOf r = cond (r .plus) (up (r .status)) (down (r .status))
+use Rattle.rules.specs.Answers.{nodeOf}
 
 -- a trigger gives the edge from its node
 abbrev pub triggerNodes : Trigger → List ℕ

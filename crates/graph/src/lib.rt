@@ -8,12 +8,13 @@ ghost use Rattle.meaning.specs.Text.{joined};
 ghost use Rattle.meaning.specs.Graph.{orderFor};
 ghost use Rattle.meaning.specs.Dependency.{up, down, both};
 ghost use Rattle.order.specs.Answers.{asSorting};
-ghost use Rattle.graph.specs.Edges.{nodeOf, triggerNodes, wordNodes, overNodes, ruleNodes, parentNode, closingNodes, tableInto};
+ghost use Rattle.rules.specs.Answers.{nodeOf};
+ghost use Rattle.graph.specs.Edges.{triggerNodes, wordNodes, overNodes, ruleNodes, parentNode, closingNodes, tableInto};
 ghost use Rattle.graph.specs.Added.{Added, toward, rulesInto};
 use order::Sorting;
 use rules::Rule;
 use rules::Rules;
-use rules::Trigger;
+use trigger::Trigger;
 
 // A status as an index. Its bound keeps the numbers of its nodes from overflowing.
 fn wide(x: u8) -> usize

@@ -1,13 +1,4 @@
--- The small functions; the tables with one row more; a section, whatever its rows are:
-pub mod Small
-pub mod Rows
-pub mod Sections
--- The model, then section by section:
-pub mod Model
-pub mod Fields
-pub mod EventPieces
-pub mod Events
-pub mod Scan
+-- The stages and the miles:
 pub mod Parent
 pub mod Status
 pub mod Statuses

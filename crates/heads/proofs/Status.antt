@@ -1,35 +1,35 @@
 -- One stage line or mile line behind its key: the returns of `status_line`.
 use Prim.Native.Nat.{ℕ, suc, _+_, _-_, _^_, _<_, _≤_}
-use mathlib.Core.Path.{_≡_, refl, sym, _∙_, ap, subst}
+use mathlib.Core.Path.{_≡_, sym, _∙_, subst}
 use mathlib.Core.Bool.{Bool, true, false, not}
 use mathlib.Core.List.{List, [], _∷_}
-use mathlib.Core.Option.{Option, none, some}
+use mathlib.Core.Option.{Option}
 use native.Mathlib.Omega.{arith}
-use native.Mathlib.Nat.{add-assoc}
 use borrow.Author.Tests.{not-true, not-false}
 use lib.ListN.{length, take, drop, length-drop}
 use lib.Seq.{drop-drop}
 use mir.Val.{Fits}
 use mir.Syntax.{w64}
 use Rattle.meaning.specs.Text.{text, begins}
-use Rattle.meaning.specs.Reading.{Got, got, wrong, Reader, after, give, lineEnd, stands}
+use Rattle.meaning.specs.Reading.{got, wrong, Reader, after, give, lineEnd, stands}
 use Rattle.meaning.specs.Name.{Name, newName}
 use Rattle.meaning.specs.Sheet.{Status, statusNames}
 use Rattle.meaning.specs.ReadSheet.{status}
 use Rattle.theory.specs.Built.{newName-built}
-use Rattle.text.specs.Packed.{packed, named}
+use Rattle.theory.specs.Faults.{never-zero}
+use Rattle.theory.specs.Readers.{after-after}
 use Rattle.text.specs.declared.NamePiece.{NamePiece}
 use Rattle.text.specs.declared.NamePiece.the-variants as N
 use Rattle.text.specs.Answers.{asName}
 use Rattle.text.proofs.Callers.{new-name-wrong, new-name-got, new-name-number, new-name-named, new-name-fits, begins-fits, line-end-here}
 use Rattle.heads.specs.declared.Under.{Under}
 use Rattle.heads.specs.declared.Under.the-variants as U
-use Rattle.heads.specs.declared.StatusLine.{StatusLine}
 use Rattle.heads.specs.declared.StatusLine.the-variants as S
-use Rattle.heads.specs.Answers.{nameFault, underFault}
+use Rattle.fields.specs.Answers.{nameFault}
+use Rattle.heads.specs.Answers.{underFault}
 use Rattle.heads.specs.Parts.{underPiece}
-use Rattle.heads.specs.Held.{UnderRead, StatusIs, StatusNot, StatusRead}
-use Rattle.heads.proofs.Sections.{after-after, not-zero, line-not, again-packed}
+use Rattle.heads.specs.Held.{UnderRead, StatusRead}
+use Rattle.fields.proofs.Sections.{line-not, again-packed}
 
 -- A ROW, by what its pieces gave
 closing : Name → Option ℕ → Reader Status
@@ -67,7 +67,7 @@ module _ (before stages : List Name) (t : List ℕ) (p : NamePiece) (read : p �
   line-name k told f g =
       let e = new-name-wrong p before t read k told in
       let z : f ≡ k = g ∙ rw told in
-      rw z record { number = (not-zero (newName-built before) 0 t k 0 (e 0)); reads = λ ss q l. status-name before ss l t k (e l) }
+      rw z record { number = (never-zero (newName-built before) 0 t k 0 (e 0)); reads = λ ss q l. status-name before ss l t k (e l) }
 
   module _ (w k : ℕ) (told : p ≡ N.Name w k) (v : List ℕ) (q : Under) (rest : v ≡ drop k t) (under : UnderRead stages v q) where
     parent : UnderRead stages (drop k t) q

@@ -1,36 +1,36 @@
 -- The stage lines and the mile lines: the way into their section, each way out, and on to the next line.
-use Prim.Native.Nat.{ℕ, suc, _+_, _-_, _*_, _^_, _<_, _≤_}
+use Prim.Native.Nat.{ℕ, _+_, _-_, _*_, _^_, _<_, _≤_}
 use mathlib.Core.Path.{_≡_, refl, sym, _∙_, ap, subst}
 use mathlib.Core.Bool.{Bool, true, false, not, cond}
 use mathlib.Core.List.{List, [], _∷_, _++_, map, append-nil, append-assoc, map-append}
-use mathlib.Core.Option.{Option, none, some}
 use native.Mathlib.Omega.{arith}
 use borrow.Author.Tests.{not-true, not-false}
 use lib.ListN.{length, take, drop, set, length-append, length-drop, length-map}
 use lib.Seq.{drop-drop}
 use mir.Val.{Fits}
 use mir.Syntax.{w64, w8}
-use Rattle.meaning.specs.Text.{text, begins}
-use Rattle.meaning.specs.Reading.{Got, got, wrong, Reader, after, give, lineEnd, stands}
-use Rattle.meaning.specs.Name.{Name, newName}
-use Rattle.meaning.specs.Sheet.{Sheet, Event, Status, eventNames, statusNames, statuses}
+use Rattle.meaning.specs.Text.{begins}
+use Rattle.meaning.specs.Reading.{wrong}
+use Rattle.meaning.specs.Name.{Name}
+use Rattle.meaning.specs.Sheet.{Sheet, Status, statusNames, statuses}
 use Rattle.meaning.specs.ReadSheet.{status, stageRow, mileRow}
 use Rattle.text.specs.Packed.{packed, named}
-use Rattle.text.specs.declared.NamePiece.{NamePiece}
-use Rattle.text.specs.declared.NamePiece.the-variants as N
-use Rattle.text.specs.Answers.{asName}
-use Rattle.text.proofs.Callers.{new-name-wrong, new-name-got, new-name-number, new-name-named, new-name-fits, begins-fits, line-end-here}
+use Rattle.text.proofs.Callers.{begins-fits}
 use Rattle.tables.specs.declared.Heads.{Heads}
-use Rattle.tables.specs.Heads.{padded, asHeads, allNames, underCode}
+use Rattle.tables.specs.Heads.{asHeads, allNames, underCode, Again}
 use Rattle.tables.proofs.Padded.{again-more, names-set, padded-set}
-use Rattle.heads.specs.declared.HeadsRead.{HeadsRead}
+use Rattle.fields.specs.declared.HeadsRead.{HeadsRead}
 use Rattle.heads.specs.declared.StatusLine.{StatusLine}
 use Rattle.heads.specs.declared.StatusLine.the-variants as S
-use Rattle.heads.specs.Answers.{refusal, statusFault}
-use Rattle.heads.specs.Parts.{used, sheetOf, statusKey, statusRow, statusRoom, withStatuses, beforePart, stagesPart, milesPart, statusesPart, underPiece}
-use Rattle.heads.specs.Held.{nextLine, Plain, NoStatuses, Behind, Reads, StatusIs, StatusNot, StatusRead}
-use Rattle.heads.proofs.Rows.{names-count, names-so-far, stages-known, fields-held, events-held, stages-held, miles-held}
-use Rattle.heads.proofs.Sections.{line-not, again-packed, reads-wrong, reads-handed, Going, going-over, going-full, going-wrong, going-more}
+use Rattle.fields.specs.Answers.{refusal}
+use Rattle.heads.specs.Answers.{statusFault}
+use Rattle.fields.specs.Parts.{used, sheetOf}
+use Rattle.heads.specs.Parts.{statusKey, statusRow, statusRoom, withStatuses, beforePart, stagesPart, milesPart, statusesPart}
+use Rattle.fields.specs.Held.{nextLine, Plain, Reads}
+use Rattle.events.specs.Held.{NoStatuses}
+use Rattle.heads.specs.Held.{Behind, StatusIs, StatusRead}
+use Rattle.fields.proofs.Rows.{names-count, names-so-far, stages-known, fields-held, events-held, stages-held, miles-held, tabled}
+use Rattle.fields.proofs.Sections.{reads-wrong, reads-handed, Going, going-start, going-over, going-full, going-wrong, going-more}
 
 -- stages and miles are read alike
 row-is : (miles : Bool) (sh : Sheet) (so : List Status) (l : ℕ) (t : List ℕ)
@@ -66,17 +66,7 @@ module _ (sh : Sheet) (so : List Status) (a : Status) where
   module _ (h : Heads) (v u x n mile stage : ℕ) (name : v ≡ packed (a .name)) (under : u ≡ underCode (a .under)) where
     abbrev stored : Heads
     stored =
-        record {
-          model = h .model;
-          fields = h .fields;
-          events = h .events;
-          stages = h .stages + stage;
-          miles = h .miles + mile;
-          names = set (h .names) n v;
-          carried = h .carried;
-          carries = h .carries;
-          under = set (h .under) x u;
-        }
+        tabled (h .model) (h .fields) (h .events) (h .stages + stage) (h .miles + mile) (set (h .names) n v) (h .carried) (h .carries) (set (h .under) x u)
 
     module _ (miles : Bool) (is : h ≡ asHeads (withStatuses miles sh so)) (plain : Plain (withStatuses miles sh so))
         (y : n ≡ length (allNames (withStatuses miles sh so))) (z : x ≡ length (withStatuses miles sh so .stages) + length (withStatuses miles sh so .miles)) (room : x < 32) where
@@ -125,26 +115,9 @@ pub statuses-start : (s key : List ℕ) (miles : Bool) (mile stage : ℕ) (befor
     → Reads (NoStatuses miles) s (beforePart miles 1 s) before → before .number ≡ 0 → length s * 1 < 2 ^ 63 → Statuses s key miles mile stage (before .heads) (before .at)
 unfolding stagesPart milesPart
 statuses-start s key false mile stage before k m o read z small =
-    let c = read .came z in
-    let j : nextLine (c .sheet) ≡ nextLine (withStatuses false (c .sheet) []) = ap nextLine (c .rest) in
-    record {
-      key-is = k;
-      mile-is = m;
-      stage-is = o;
-      sheet = c .sheet;
-      going = record { so = []; is = c .heads ∙ ap asHeads (c .rest); plain = subst Plain (c .rest) (c .plain); few = omega arith; short = omega arith; within = c .within; same = rw (c .same, j) };
-    }
+    let c = read .came z in record { key-is = k; mile-is = m; stage-is = o; sheet = c .sheet; going = going-start c (c .rest) small (rw (c .same)) }
 statuses-start s key true mile stage before k m o read z small =
-    let c = read .came z in
-    let j : nextLine (c .sheet) ≡ nextLine (withStatuses true (c .sheet) []) = ap nextLine (c .rest) in
-    let l : 32 - length (c .sheet .stages) - 0 ≡ 32 - length (c .sheet .stages) = omega arith in
-    record {
-      key-is = k;
-      mile-is = m;
-      stage-is = o;
-      sheet = c .sheet;
-      going = record { so = []; is = c .heads ∙ ap asHeads (c .rest); plain = subst Plain (c .rest) (c .plain); few = omega arith; short = omega arith; within = c .within; same = rw (c .same, j, l) };
-    }
+    let c = read .came z in record { key-is = k; mile-is = m; stage-is = o; sheet = c .sheet; going = going-start c (c .rest) small (rw (c .same)) }
 
 -- a row counts once, as a stage or as a mile
 one-of : (b : Bool) (m n : ℕ) → m ≡ cond b 1 0 → n ≡ cond (not b) 1 0 → n + m ≡ 1
@@ -155,36 +128,21 @@ behind-is : (miles : Bool) (sh : Sheet) (so : List Status) → Behind miles (wit
 behind-is false sh so = refl
 behind-is true sh so = tt
 
+-- other statuses in their place
+plain-with : (sh : Sheet) (ss ms : List Status) → Again (statusNames ss) → Again (statusNames ms) → length ss + length ms ≤ 32 → Plain sh
+    → Plain (sheetOf (sh .model) (sh .fields) (sh .events) ss ms)
+plain-with sh ss ms s m h p =
+    record { fields = p .fields; events = p .events; stages = s; miles = m; carried = p .carried; few-fields = p .few-fields; few-events = p .few-events; few-statuses = h }
+
+again-status : (so : List Status) (a : Status) → Again (statusNames so) → named (packed (a .name)) ≡ a .name → Again (statusNames (so ++ (a ∷ [])))
+unfolding statusNames
+again-status so a h e = rw (map-append (λ (x : Status). x .name) so (a ∷ [])) (again-more (statusNames so) (a .name) h e)
+
 plain-more : (miles : Bool) (sh : Sheet) (so : List Status) (a : Status) → named (packed (a .name)) ≡ a .name
     → length (withStatuses miles sh so .stages) + length (withStatuses miles sh so .miles) < 32
     → Plain (withStatuses miles sh so) → Plain (withStatuses miles sh (so ++ (a ∷ [])))
-unfolding statusNames
-plain-more false sh so a e h p =
-    let k = length-append so (a ∷ []) in
-    let few : length (so ++ (a ∷ [])) + 0 ≤ 32 = omega (arith, h) in
-    record {
-      fields = p .fields;
-      events = p .events;
-      stages = rw (map-append (λ (x : Status). x .name) so (a ∷ [])) (again-more (statusNames so) (a .name) (p .stages) e);
-      miles = p .miles;
-      carried = p .carried;
-      few-fields = p .few-fields;
-      few-events = p .few-events;
-      few-statuses = few;
-    }
-plain-more true sh so a e h p =
-    let k = length-append so (a ∷ []) in
-    let few : length (sh .stages) + length (so ++ (a ∷ [])) ≤ 32 = omega (arith, h) in
-    record {
-      fields = p .fields;
-      events = p .events;
-      stages = p .stages;
-      miles = rw (map-append (λ (x : Status). x .name) so (a ∷ [])) (again-more (statusNames so) (a .name) (p .miles) e);
-      carried = p .carried;
-      few-fields = p .few-fields;
-      few-events = p .few-events;
-      few-statuses = few;
-    }
+plain-more false sh so a e h p = plain-with (withStatuses false sh so) (so ++ (a ∷ [])) [] (again-status so a (p .stages) e) (p .miles) (omega (arith, length-append so (a ∷ []))) p
+plain-more true sh so a e h p = plain-with (withStatuses true sh so) (sh .stages) (so ++ (a ∷ [])) (p .stages) (again-status so a (p .miles) e) (omega (arith, length-append so (a ∷ []))) p
 
 -- what the answer on a row tells
 row-told : (before stages : List Name) (t : List ℕ) (q r : StatusLine) → StatusRead before stages t q → q ≡ r → StatusRead before stages t r
@@ -298,17 +256,7 @@ module _ (s key : List ℕ) (miles : Bool) (mile stage : ℕ) (h : Heads) (at : 
           unfolding statusNames
           statuses-byte = omega (arith, is .small, length-map (here .stages) (λ (x : Status). x .name), roomy)
 
-          pub statuses-more : (at′ : ℕ) → at′ ≡ at + length key + k → Statuses s key miles mile stage (record {
-            model = h .model;
-            fields = h .fields;
-            events = h .events;
-            stages = h .stages + stage;
-            miles = h .miles + mile;
-            names = set (h .names) count w;
-            carried = h .carried;
-            carries = h .carries;
-            under = set (h .under) (h .stages + h .miles) u;
-          }) at′
+          pub statuses-more : (at′ : ℕ) → at′ ≡ at + length key + k → Statuses s key miles mile stage (tabled (h .model) (h .fields) (h .events) (h .stages + stage) (h .miles + mile) (set (h .names) count w) (h .carried) (h .carries) (set (h .under) (h .stages + h .miles) u)) at′
           statuses-more at′ y =
               record {
                 key-is = i .key-is;

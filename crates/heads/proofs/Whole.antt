@@ -1,19 +1,17 @@
 -- The sections one after the other are what stands above the rules.
 use Prim.Native.Nat.{ℕ, _-_}
-use mathlib.Core.Path.{_≡_, refl, sym, _∙_, ap}
-use mathlib.Core.Bool.{Bool, true, false}
-use mathlib.Core.List.{List, [], _∷_, _++_}
-use lib.ListN.{length}
-use Rattle.meaning.specs.Text.{text}
-use Rattle.meaning.specs.Reading.{Got, got, wrong, Reader, after, give, due, lineEnd}
-use Rattle.meaning.specs.Name.{Name, name}
-use Rattle.meaning.specs.Sheet.{Sheet, Event, Status, eventNames}
-use Rattle.meaning.specs.ReadSheet.{heads, section, fieldRow, eventRow, stageRow, mileRow}
-use Rattle.heads.specs.declared.HeadsRead.{HeadsRead}
-use Rattle.heads.specs.Answers.{asHeadsRead}
-use Rattle.heads.specs.Parts.{sheetOf, withFields, modelPart, fieldsPart, eventsPart, stagesPart, milesPart}
-use Rattle.heads.specs.Held.{Behind, Reads}
-use Rattle.heads.proofs.Sections.{after-after}
+use mathlib.Core.Path.{_≡_, sym}
+use mathlib.Core.Bool.{true}
+use mathlib.Core.List.{List}
+use Rattle.meaning.specs.ReadSheet.{heads}
+use Rattle.theory.specs.Readers.{after-after}
+use Rattle.fields.specs.declared.HeadsRead.{HeadsRead}
+use Rattle.fields.specs.Answers.{asHeadsRead}
+use Rattle.fields.specs.Parts.{modelPart, fieldsPart}
+use Rattle.events.specs.Parts.{eventsPart}
+use Rattle.heads.specs.Parts.{stagesPart, milesPart}
+use Rattle.fields.specs.Held.{Reads}
+use Rattle.heads.specs.Held.{Behind}
 
 heads-parts : (l : ℕ) (s : List ℕ) → heads l s ≡ milesPart l s
 unfolding heads modelPart fieldsPart eventsPart stagesPart milesPart

@@ -1,49 +1,17 @@
--- What stands above the rules, read section by section: after each, the sheet as far as it is known.
+-- What is read with the stages, and with the miles.
 use Prim.Native.Nat.{ℕ, _-_}
 use mathlib.Core.Bool.{Bool, true, false}
-use mathlib.Core.List.{List, [], _∷_, _++_}
+use mathlib.Core.List.{List, []}
 use mathlib.Core.Option.{Option, none, some}
 use lib.ListN.{length}
 use Rattle.meaning.specs.Text.{text}
-use Rattle.meaning.specs.Refusal.{LINE}
-use Rattle.meaning.specs.Limits.{fieldLimit, eventLimit, statusLimit}
-use Rattle.meaning.specs.Reading.{Reader, _>>=_, _>>_, give, choose, stands, due, lineEnd}
-use Rattle.meaning.specs.Name.{Name, name, known}
-use Rattle.meaning.specs.Sheet.{Sheet, Event, Status, eventNames}
-use Rattle.meaning.specs.ReadSheet.{section, fieldRow, eventRow, stageRow, mileRow}
-
--- the sheet with these sections, and no rules
-abbrev pub sheetOf : Name → List Name → List Event → List Status → List Status → Sheet
-sheetOf m fs es ss ms = record { model = m; fields = fs; events = es; stages = ss; miles = ms; rules = [] }
-
-abbrev pub withFields : Name → List Name → Sheet
-withFields m fs = sheetOf m fs [] [] []
-
-abbrev pub withEvents : Sheet → List Event → Sheet
-withEvents sh es = sheetOf (sh .model) (sh .fields) es [] []
-
--- the names of the sections before the stages
-abbrev pub used : Sheet → List Name
-used sh = sh .fields ++ eventNames (sh .events)
-
-unfoldable pub modelPart : Reader Sheet
-modelPart = do
-  due LINE (text "model=")
-  m ← name
-  lineEnd LINE
-  give (sheetOf m [] [] [] [])
-
-unfoldable pub fieldsPart : Reader Sheet
-fieldsPart = do
-  sh ← modelPart
-  fs ← section (text "field=") fieldRow fieldLimit []
-  give (withFields (sh .model) fs)
-
-unfoldable pub eventsPart : Reader Sheet
-eventsPart = do
-  sh ← fieldsPart
-  es ← section (text "event=") (eventRow (sh .fields)) eventLimit []
-  give (withEvents sh es)
+use Rattle.meaning.specs.Limits.{statusLimit}
+use Rattle.meaning.specs.Reading.{Reader, _>>=_, give, choose, stands}
+use Rattle.meaning.specs.Name.{Name, known}
+use Rattle.meaning.specs.Sheet.{Sheet, Status}
+use Rattle.meaning.specs.ReadSheet.{section, stageRow, mileRow}
+use Rattle.fields.specs.Parts.{sheetOf, used}
+use Rattle.events.specs.Parts.{eventsPart}
 
 -- STAGES AND MILES are read alike: `true` for miles
 

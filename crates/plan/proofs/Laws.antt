@@ -15,10 +15,10 @@ use lib.Seq.{sets, sets-eq, take-nil, take-all, take-take, drop-cons, getD-take}
 use borrow.Author.Tests.{eq-eqb, ne-eqb, lt-ltb, le-ltb, ltb-true, not-true, not-false}
 use Rattle.meaning.specs.Text.{keep, joined}
 use Rattle.rules.specs.declared.Rule.{Rule}
-use Rattle.rules.specs.Answers.{noRule}
+use Rattle.rules.specs.Answers.{noRule, nodeOf}
 use Rattle.tables.specs.Heads.{padded}
 use Rattle.plan.specs.declared.Listed.{Listed}
-use Rattle.plan.specs.Plan.{nodeOf, groupOf, listedBy, endsFrom, asPlan}
+use Rattle.plan.specs.Plan.{groupOf, listedBy, endsFrom, asPlan}
 use Rattle.plan.specs.Listed.{noneListed, addIf, addAll}
 
 -- THE NODE OF A RULE

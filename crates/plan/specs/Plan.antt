@@ -1,19 +1,13 @@
 -- The rules listed by a testing order: those of its first node, in sheet order, then those of the next, and where each node's rules end.
 use Prim.Native.Nat.{ℕ, _+_, min}
-use mathlib.Core.Bool.{cond}
 use mathlib.Core.List.{List, [], _∷_, _++_}
 use lib.Dec.{eqb}
 use lib.ListN.{length, take, replicate}
 use Rattle.meaning.specs.Text.{keep, joined}
-use Rattle.meaning.specs.Dependency.{up, down}
 use Rattle.tables.specs.Heads.{padded}
 use Rattle.rules.specs.declared.Rule.{Rule}
-use Rattle.rules.specs.Answers.{noRule}
+use Rattle.rules.specs.Answers.{noRule, nodeOf}
 use Rattle.plan.specs.declared.Plan.{Plan}
-
--- the node that a rule sets
-abbrev pub nodeOf : Rule → ℕ
-nodeOf r = cond (r .plus) (up (r .status)) (down (r .status))
 
 -- the rules of a node, in sheet order
 unfoldable pub groupOf : List Rule → ℕ → List Rule

@@ -4,12 +4,12 @@ ghost use Prim.Native.Nat.{_≤_, _<_, min};
 ghost use mathlib.Core.Bool.{_&&_};
 ghost use lib.Dec.{eqb, ltb};
 ghost use lib.ListN.{length, take};
-ghost use Rattle.rules.specs.Answers.{noRule};
-ghost use Rattle.plan.specs.Plan.{nodeOf, groupOf, asPlan};
+ghost use Rattle.rules.specs.Answers.{noRule, nodeOf};
+ghost use Rattle.plan.specs.Plan.{groupOf, asPlan};
 ghost use Rattle.plan.specs.Listed.{noneListed, addAll};
 use rules::Rule;
 use rules::Rules;
-use rules::Trigger;
+use trigger::Trigger;
 
 // The rules in the order of the nodes, and behind which of them each node's rules end.
 pub struct Plan {

@@ -1,6 +1,7 @@
 -- For callers: what the answer for the rules tells of the meaning, at every line and for every text.
 use Prim.Native.Nat.{ℕ, _+_, _≤_}
 use mathlib.Core.Path.{_≡_, refl, _∙_, ap}
+use mathlib.Core.Bool.{cond}
 use mathlib.Core.List.{List, []}
 use native.Mathlib.Omega.{arith}
 use lib.ListN.{length}
@@ -12,6 +13,7 @@ use Rattle.meaning.specs.Name.{Name}
 use Rattle.meaning.specs.Number.{endLine}
 use Rattle.meaning.specs.Sheet as M
 use Rattle.meaning.specs.ReadSheet.{section, ruleRow, rulesOf}
+use Rattle.meaning.specs.Dependency.{up, down, node, consequent}
 use Rattle.theory.specs.BuiltPapers.{rules-built}
 use Rattle.theory.specs.Faults.{built-faulty}
 use Rattle.theory.specs.Shift.{built-shifts}
@@ -19,8 +21,9 @@ use Rattle.number.specs.Answers.{asEnd}
 use Rattle.number.specs.declared.End.{End}
 use Rattle.number.specs.declared.End.the-variants as D
 use Rattle.number.proofs.Callers.{end-got, end-wrong}
+use Rattle.trigger.specs.Answers.{isPlus}
 use Rattle.rules.specs.declared.RulesRead.{RulesRead}
-use Rattle.rules.specs.Answers.{allWords, asRules, asRulesRead, wordsSpace}
+use Rattle.rules.specs.Answers.{nodeOf, asRule, allWords, asRules, asRulesRead, wordsSpace}
 
 -- nothing is left behind the rules
 abbrev Closed : {A : Type 0} → Got A → Type 0
@@ -86,3 +89,12 @@ module _ (fs es ss : List Name) (t : List ℕ) where
         go (wrong n k) e =
             let q : r ≡ asRulesRead (wrong n k) = is ∙ ap asRulesRead e in
             built-shifts (rules-built fs es ss) l t ∙ rw (e, q)
+
+-- the node that a rule's row tells is that of its consequent
+pub node-same : (top : ℕ) (r : M.Rule) → nodeOf (asRule top r) ≡ consequent r
+unfolding asRule consequent
+node-same top r = go (r .sign)
+  where
+    go : (g : M.Sign) → cond (isPlus g) (up (r .status)) (down (r .status)) ≡ node g (r .status)
+    go M.plus = refl
+    go M.minus = refl

@@ -1,9 +1,7 @@
 -- Laws of the rules' readers:
-pub mod Answered
-pub mod Pieces
 pub mod Endings
 pub mod Rows
-pub mod Sections
+pub mod Cleared
 pub mod Scan
 pub mod Whole
 pub mod Callers

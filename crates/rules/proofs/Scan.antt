@@ -15,21 +15,22 @@ use Rattle.meaning.specs.Reading.{Got}
 use Rattle.meaning.specs.Sheet as M
 use Rattle.meaning.specs.Sheet.{leavesOf, leaves}
 use Rattle.meaning.specs.ReadSheet.{section, ruleRow}
+use Rattle.theory.specs.Lists.{joined-more}
+use Rattle.theory.specs.Sections.{section-over, section-full, section-wrong, section-row}
 use Rattle.text.specs.Packed.{named}
 use Rattle.text.proofs.Callers.{begins-fits}
 use Rattle.tables.specs.Heads.{padded}
+use Rattle.tables.proofs.Padded.{padded-set}
 use Rattle.condition.proofs.Kept.{sets-append}
-use Rattle.rules.specs.declared.Rule.{Rule}
+use Rattle.trigger.proofs.Answered.{behind, Ends}
 use Rattle.rules.specs.declared.Rules.{Rules}
 use Rattle.rules.specs.declared.Row.{Row}
 use Rattle.rules.specs.declared.RowRead.{RowRead}
 use Rattle.rules.specs.declared.RowRead.the-variants as R
 use Rattle.rules.specs.declared.RowsRead.{RowsRead}
 use Rattle.rules.specs.Answers.{wordsOf, asRule, asRows, allWords, noRule, asRules}
-use Rattle.rules.specs.Parts.{Room, row, rowAt, asRow, Stored, RowsAs}
-use Rattle.rules.proofs.Answered.{Answered, found, faulty, answered-line, behind}
-use Rattle.rules.proofs.Rows.{FewRule, row-is, lined-row}
-use Rattle.rules.proofs.Sections.{section-over, section-full, section-wrong, section-row, padded-row, joined-more}
+use Rattle.rules.specs.Parts.{Room, row, asRow, Stored, RowsAs}
+use Rattle.rules.proofs.Rows.{FewRule, row-is, lined-row, Rowed, rowed, unrowed}
 
 -- A RULE MORE
 abbrev ws : M.Rule → List ℕ
@@ -65,7 +66,7 @@ rules-more : (so : List M.Rule) (r : M.Rule) → length so < 128
 unfolding asRules
 rules-more so r h =
     let a : set (padded 128 noRule (asRows 0 so)) (length so) (asRule (length (allWords so)) r) ≡ padded 128 noRule (asRows 0 (so ++ (r ∷ [])))
-    = rw (rows-more 0 so r, ← rows-count 0 so, zero-add) (padded-row 128 noRule (asRule (length (allWords so)) r) (asRows 0 so) (rw (rows-count 0 so) h)) in
+    = rw (rows-more 0 so r, ← rows-count 0 so, zero-add) (padded-set 128 noRule (asRows 0 so) (asRule (length (allWords so)) r) (rw (rows-count 0 so) h)) in
     let b : suc (length so) ≡ length (so ++ (r ∷ [])) = sym (count-more so r) in
     let c : length (allWords so) + length (ws r) ≡ length (allWords (so ++ (r ∷ []))) = rw (words-more so r) (sym (length-append (allWords so) (ws r))) in
     let d : length (leaves so) + length (leavesOf (r .condition)) ≡ length (leaves (so ++ (r ∷ []))) = rw (leaves-more so r) (sym (length-append (leaves so) (leavesOf (r .condition)))) in
@@ -145,9 +146,8 @@ module _ (fs es ss s was : List ℕ) where
           few-leaves : rules .leaves ≤ 512
           few-leaves = omega (arith, leafed, g .few)
 
-          answer : Answered (FewRule (rules .leaves)) suc (rowAt (rules .top) (rules .leaves)) R.Refused (row (map named fs) (map named es) (map named ss) (rules .leaves)) u r
-          answer = answered-line (FewRule (rules .leaves)) (rowAt (rules .top) (rules .leaves)) R.Refused (row (map named fs) (map named es) (map named ss) (rules .leaves)) u
-              (lined-row fs es ss (rules .leaves) few-leaves u) r told
+          lined : Ends (FewRule (rules .leaves)) suc (row (map named fs) (map named es) (map named ss) (rules .leaves)) u
+          lined = lined-row fs es ss (rules .leaves) few-leaves u
 
           -- the meaning's reader of this row
           read-row : (l : ℕ) (q : Got M.Rule) → row (map named fs) (map named es) (map named ss) (rules .leaves) l u ≡ q
@@ -157,73 +157,51 @@ module _ (fs es ss s was : List ℕ) where
               rw d (row-is (map named fs) (map named es) (map named ss) (g .so) l u ∙ rw (← leafed) h)
 
           pub rows-wrong : (k : ℕ) → r ≡ R.Refused k → (v : RowsRead) → v .number ≡ k → v .rules .count ≡ rules .count → RowsAs s was now′ v (lines 128 [] 0 s)
-          rows-wrong k f v i c = go answer
-            where
-              go : Answered (FewRule (rules .leaves)) suc (rowAt (rules .top) (rules .leaves)) R.Refused (row (map named fs) (map named es) (map named ss) (rules .leaves)) u r
-                  → RowsAs s was now′ v (lines 128 [] 0 s)
-              go (found a n h m reads z) =
-                  let y : _≡_ {A = ℕ} 0 1 = cc in
-                  absurd (omega arith)
-              go (faulty j reads z) =
-                  let y : k ≡ j = cc in
-                  let w : length now′ ≡ length now = rw (reads 0) at store in
-                  rw (g .same, section-wrong (text "rule=") (ruleRow (map named fs) (map named es) (map named ss)) (g .so) (length (g .so)) (drop at s) key (128 - length (g .so)) (omega (arith, counted)) j (length (g .so)) (read-row (length (g .so)) _ (reads (length (g .so)))))
-                  (record { number = i ∙ y; line = c ∙ counted; kept = w ∙ going-length })
+          rows-wrong k f v i c =
+              let e = unrowed (row (map named fs) (map named es) (map named ss) (rules .leaves)) u (rules .top) (rules .leaves) lined r told k f in
+              let w : length now′ ≡ length now = rw (e 0) at store in
+              rw (g .same, section-wrong (text "rule=") (ruleRow (map named fs) (map named es) (map named ss)) (g .so) (length (g .so)) (drop at s) key (128 - length (g .so)) (omega (arith, counted)) k (length (g .so)) (read-row (length (g .so)) _ (e (length (g .so)))))
+              (record { number = i; line = c ∙ counted; kept = w ∙ going-length })
+
+          taken : (a : Row) → r ≡ R.At a → Rowed (row (map named fs) (map named es) (map named ss) (rules .leaves)) u (rules .top) (rules .leaves) a
+          taken = rowed (row (map named fs) (map named es) (map named ss) (rules .leaves)) u (rules .top) (rules .leaves) lined r told
+
+          pub rows-last : (a : Row) → r ≡ R.At a → at + 5 + a .bytes ≤ length s
+          rows-last a f = behind s (a .bytes) (at + 5) rows-key (rw (from, next) at (taken a f .within))
 
           pub rows-row : (a : Row) → r ≡ R.At a → (c at′ : ℕ) → c ≡ rules .count + 1 → at′ ≡ x + a .bytes → (rules′ : Rules)
               → rules′ ≡ record { rows = set (rules .rows) (rules .count) (a .rule); count = c; top = a .top; leaves = a .leaves } → Going at′ rules′ now′
-          rows-row a f c at′ i j rules′ t = go answer
+          rows-row a f c at′ i j rules′ t =
+              let h = taken a f in
+              let y = h .value in
+              let o = rows-last a f in
+              let a1 : a .rule ≡ asRule (length (allWords (g .so))) y = h .rule-is ∙ ap (λ (n : ℕ). asRule n y) topped in
+              let a3 : a .top ≡ length (allWords (g .so)) + length (ws y) = h .top-is ∙ ap (λ (n : ℕ). n + length (ws y)) topped in
+              let a4 : a .leaves ≡ length (leaves (g .so)) + length (leavesOf (y .condition)) = h .leaves-is ∙ ap (λ (n : ℕ). n + length (leavesOf (y .condition))) leafed in
+              let r1 : rules .rows ≡ asRules (g .so) .rows = ap (λ (r : Rules). r .rows) (g .table) in
+              let c1 : c ≡ suc (length (g .so)) = omega (arith, counted) in
+              let w : now′ ≡ sets now (rules .top) (ws y) = rw (h .reads 0) at store in
+              let full : _≡_ {A = Rules} (record { rows = set (rules .rows) (rules .count) (a .rule); count = c; top = a .top; leaves = a .leaves })
+              (record { rows = set (asRules (g .so) .rows) (length (g .so)) (asRule (length (allWords (g .so))) y); count = suc (length (g .so)); top = length (allWords (g .so)) + length (ws y); leaves = length (leaves (g .so)) + length (leavesOf (y .condition)) })
+              = cc counted in
+              let further : lines 128 [] 0 s ≡ lines (128 - length (g .so) - 1) (g .so ++ (y ∷ [])) (suc (length (g .so))) (drop (a .bytes) u)
+              = g .same ∙ section-row (text "rule=") (ruleRow (map named fs) (map named es) (map named ss)) (g .so) (length (g .so)) (drop at s) key (128 - length (g .so)) (omega (arith, counted)) y
+              (suc (length (g .so))) (drop (a .bytes) u) (read-row (length (g .so)) _ (h .reads (length (g .so)))) in
+              let e1 : 128 - length (g .so) - 1 ≡ 128 - suc (length (g .so)) = omega arith in
+              let e2 : drop (a .bytes) u ≡ drop at′ s = rw (from, j, drop-drop (a .bytes) x s) in
+              record {
+                so = g .so ++ (y ∷ []);
+                within = omega arith;
+                room = rw (count-more (g .so) y) (omega (arith, counted));
+                table = t ∙ full ∙ rules-more (g .so) y (omega (arith, counted));
+                space = w ∙ ap (λ (n : ℕ). sets now n (ws y)) topped ∙ ap (λ (l : List ℕ). sets l (length (allWords (g .so))) (ws y)) (g .space) ∙ rw (words-more (g .so) y) (more (allWords (g .so)) (ws y));
+                few = rw (leaves-more (g .so) y, length-append) (omega (arith, leafed, h .few .0));
+                small = rw (words-more (g .so) y, leaves-more (g .so) y, length-append (allWords (g .so)), length-append (leaves (g .so))) (omega (arith, g .small, h .few .1));
+                same = further ∙ rw (count-more (g .so) y, e1, e2);
+              }
             where
               more : (xs ys : List ℕ) → sets (sets was 0 xs) (length xs) ys ≡ sets was 0 (xs ++ ys)
               more xs ys = rw (zero-add (length xs)) at (sets-append xs ys was 0)
-
-              go : Answered (FewRule (rules .leaves)) suc (rowAt (rules .top) (rules .leaves)) R.Refused (row (map named fs) (map named es) (map named ss) (rules .leaves)) u r → Going at′ rules′ now′
-              go (found y n h m reads z) =
-                  let q : a ≡ record { rule = asRule (rules .top) y; bytes = n; top = rules .top + length (ws y); leaves = rules .leaves + length (leavesOf (y .condition)) } = cc in
-                  let a1 : a .rule ≡ asRule (length (allWords (g .so))) y = ap (λ (a : Row). a .rule) q ∙ ap (λ (n : ℕ). asRule n y) topped in
-                  let a2 : a .bytes ≡ n = ap (λ (a : Row). a .bytes) q in
-                  let a3 : a .top ≡ length (allWords (g .so)) + length (ws y) = ap (λ (a : Row). a .top) q ∙ ap (λ (n : ℕ). n + length (ws y)) topped in
-                  let a4 : a .leaves ≡ length (leaves (g .so)) + length (leavesOf (y .condition)) = ap (λ (a : Row). a .leaves) q ∙ ap (λ (n : ℕ). n + length (leavesOf (y .condition))) leafed in
-                  let r1 : rules .rows ≡ asRules (g .so) .rows = ap (λ (r : Rules). r .rows) (g .table) in
-                  let c1 : c ≡ suc (length (g .so)) = omega (arith, counted) in
-                  let d : u ≡ drop (at + 5) s = rw (from, next) in
-                  let o : at + 5 + n ≤ length s = behind s n (at + 5) rows-key (rw d at m) in
-                  let w : now′ ≡ sets now (rules .top) (ws y) = rw (reads 0) at store in
-                  let full : _≡_ {A = Rules} (record { rows = set (rules .rows) (rules .count) (a .rule); count = c; top = a .top; leaves = a .leaves })
-                  (record { rows = set (asRules (g .so) .rows) (length (g .so)) (asRule (length (allWords (g .so))) y); count = suc (length (g .so)); top = length (allWords (g .so)) + length (ws y); leaves = length (leaves (g .so)) + length (leavesOf (y .condition)) })
-                  = cc counted in
-                  let further : lines 128 [] 0 s ≡ lines (128 - length (g .so) - 1) (g .so ++ (y ∷ [])) (suc (length (g .so))) (drop n u)
-                  = g .same ∙ section-row (text "rule=") (ruleRow (map named fs) (map named es) (map named ss)) (g .so) (length (g .so)) (drop at s) key (128 - length (g .so)) (omega (arith, counted)) y
-                  (suc (length (g .so))) (drop n u) (read-row (length (g .so)) _ (reads (length (g .so)))) in
-                  let e1 : 128 - length (g .so) - 1 ≡ 128 - suc (length (g .so)) = omega arith in
-                  let e2 : drop n u ≡ drop at′ s = rw (d, drop-drop n (at + 5) s, j, a2, next) in
-                  record {
-                    so = g .so ++ (y ∷ []);
-                    within = omega arith;
-                    room = rw (count-more (g .so) y) (omega (arith, counted));
-                    table = t ∙ full ∙ rules-more (g .so) y (omega (arith, counted));
-                    space = w ∙ ap (λ (n : ℕ). sets now n (ws y)) topped ∙ ap (λ (l : List ℕ). sets l (length (allWords (g .so))) (ws y)) (g .space) ∙ rw (words-more (g .so) y) (more (allWords (g .so)) (ws y));
-                    few = rw (leaves-more (g .so) y, length-append) (omega (arith, leafed, h .0));
-                    small = rw (words-more (g .so) y, leaves-more (g .so) y, length-append (allWords (g .so)), length-append (leaves (g .so))) (omega (arith, g .small, h .1));
-                    same = further ∙ rw (count-more (g .so) y, e1, e2);
-                  }
-              go (faulty k reads z) =
-                  let y : _≡_ {A = ℕ} 0 1 = cc in
-                  absurd (omega arith)
-
-          pub rows-last : (a : Row) → r ≡ R.At a → at + 5 + a .bytes ≤ length s
-          rows-last a f = go answer
-            where
-              go : Answered (FewRule (rules .leaves)) suc (rowAt (rules .top) (rules .leaves)) R.Refused (row (map named fs) (map named es) (map named ss) (rules .leaves)) u r → at + 5 + a .bytes ≤ length s
-              go (found y n h m reads z) =
-                  let q : a ≡ record { rule = asRule (rules .top) y; bytes = n; top = rules .top + length (ws y); leaves = rules .leaves + length (leavesOf (y .condition)) } = cc in
-                  let w : a .bytes ≡ n = ap (λ (a : Row). a .bytes) q in
-                  let d : u ≡ drop (at + 5) s = rw (from, next) in
-                  let o : at + 5 + n ≤ length s = behind s n (at + 5) rows-key (rw d at m) in
-                  omega arith
-              go (faulty k reads z) =
-                  let y : _≡_ {A = ℕ} 0 1 = cc in
-                  absurd (omega arith)
 
           pub rows-fits : length s < 2 ^ 64 → (a : Row) → r ≡ R.At a → (k : ℕ) → k ≡ x + a .bytes → Fits w64 k
           rows-fits big a f k w = omega (arith, rows-last a f)

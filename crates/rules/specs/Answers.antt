@@ -1,6 +1,6 @@
 -- What the code answers for the rules that the meaning reads, and what the lent words then are.
 use Prim.Native.Nat.{ℕ, _+_, _≤_}
-use mathlib.Core.Bool.{Bool, true, false}
+use mathlib.Core.Bool.{false, cond}
 use mathlib.Core.List.{List, [], _∷_}
 use mathlib.Core.Option.{Option, none, some}
 use lib.ListN.{length, replicate}
@@ -9,25 +9,15 @@ use Rattle.meaning.specs.Text.{joined}
 use Rattle.meaning.specs.Reading.{Got, got, wrong}
 use Rattle.meaning.specs.Condition.{Cond}
 use Rattle.meaning.specs.Sheet as M
-use Rattle.meaning.specs.Sheet.{Sign, plus, minus, leaves}
+use Rattle.meaning.specs.Sheet.{leaves}
+use Rattle.meaning.specs.Dependency.{up, down}
 use Rattle.verdict.specs.Flat.{words}
 use Rattle.tables.specs.Heads.{padded}
-use Rattle.rules.specs.declared.Trigger.{Trigger}
-use Rattle.rules.specs.declared.Trigger.the-variants.{Always, Event, Rise, Fall}
+use Rattle.trigger.specs.declared.Trigger.the-variants.{Always}
+use Rattle.trigger.specs.Answers.{isPlus, asTrigger}
 use Rattle.rules.specs.declared.Rule.{Rule}
 use Rattle.rules.specs.declared.Rules.{Rules}
 use Rattle.rules.specs.declared.RulesRead.{RulesRead}
-
-abbrev pub isPlus : Sign → Bool
-isPlus plus = true
-isPlus minus = false
-
--- "A trigger is an event, or `+` or `-` and a status"
-abbrev pub asTrigger : M.Trigger → Trigger
-asTrigger M.Trigger.always = Always
-asTrigger (M.Trigger.event e) = Event e
-asTrigger (M.Trigger.rise x) = Rise x
-asTrigger (M.Trigger.fall x) = Fall x
 
 -- the words of a rule's condition
 unfoldable pub wordsOf : Option Cond → List ℕ
@@ -43,6 +33,10 @@ asRule top r = record {
   from = top;
   to = top + length (wordsOf (r .condition));
 }
+
+-- the node that a rule sets
+abbrev pub nodeOf : Rule → ℕ
+nodeOf r = cond (r .plus) (up (r .status)) (down (r .status))
 
 unfoldable pub asRows : ℕ → List M.Rule → List Rule
 asRows top [] = []

@@ -1,33 +1,25 @@
 -- The parts of a rule's line as the code goes through them, and what the code answers for each.
-use Prim.Native.Nat.{ℕ, _+_, _-_, _*_, _^_, _≤_, _<_}
+use Prim.Native.Nat.{ℕ, _+_, _*_, _^_, _≤_, _<_}
 use mathlib.Core.Path.{_≡_}
-use mathlib.Core.Bool.{Bool, true, false, _||_, cond}
-use mathlib.Core.List.{List, []}
+use mathlib.Core.Bool.{Bool, _||_, cond}
+use mathlib.Core.List.{List}
 use mathlib.Core.Option.{Option, none, some}
 use lib.ListN.{length, drop}
 use lib.Seq.{sets}
 use Rattle.meaning.specs.Text.{text}
 use Rattle.meaning.specs.Refusal.{LINE, COND}
-use Rattle.meaning.specs.Reading.{Got, got, wrong, Reader, _>>=_, _>>_, give, choose, demand, stands, oneOf, lineEnd}
-use Rattle.meaning.specs.Name.{Name, known}
+use Rattle.meaning.specs.Reading.{Got, got, wrong, Reader, _>>=_, _>>_, give, choose, demand, stands, lineEnd}
+use Rattle.meaning.specs.Name.{Name}
 use Rattle.meaning.specs.Condition.{Cond}
 use Rattle.meaning.specs.ReadCondition.{condition}
 use Rattle.meaning.specs.Sheet as M
-use Rattle.meaning.specs.Sheet.{Sign, leavesOf}
-use Rattle.meaning.specs.ReadSheet.{signs, trigger}
+use Rattle.meaning.specs.Sheet.{leavesOf}
+use Rattle.trigger.specs.declared.Start.{Start}
+use Rattle.trigger.specs.Answers.{begun, asRead}
 use Rattle.condition.specs.declared.Place.{Place}
 use Rattle.condition.specs.declared.CondRead.{CondRead}
 use Rattle.condition.specs.declared.CondRead.the-variants as C
-use Rattle.rules.specs.Answers.{isPlus, asTrigger, wordsOf, asRule, asRules, allWords}
-use Rattle.rules.specs.declared.Trigger.{Trigger}
-use Rattle.rules.specs.declared.Trigger.the-variants.{Rise, Fall}
-use Rattle.rules.specs.declared.SignRead.{SignRead}
-use Rattle.rules.specs.declared.SignRead.the-variants as G
-use Rattle.rules.specs.declared.TriggerRead.{TriggerRead}
-use Rattle.rules.specs.declared.TriggerRead.the-variants as T
-use Rattle.rules.specs.declared.Start.{Start}
-use Rattle.rules.specs.declared.StartRead.{StartRead}
-use Rattle.rules.specs.declared.StartRead.the-variants as S
+use Rattle.rules.specs.Answers.{wordsOf, asRule, asRules, allWords}
 use Rattle.rules.specs.declared.Row.{Row}
 use Rattle.rules.specs.declared.RowRead.{RowRead}
 use Rattle.rules.specs.declared.RowRead.the-variants as R
@@ -41,32 +33,6 @@ pub record Room (fields events statuses was : List ℕ) (top leaves : ℕ) : Typ
   pub few-leaves : leaves ≤ 512
   pub few-words : top ≤ 2 * leaves
   pub room : 1024 ≤ length was
-
--- an event as a trigger
-unfoldable pub eventTrigger : List Name → Reader M.Trigger
-eventTrigger events = known events >>= λ e. give (M.Trigger.event e)
-
--- a rule's sign, status and trigger, and whether ` on ` stands
-pub record Begun : Type 0 where
-  pub sign : Sign
-  pub status : ℕ
-  pub trigger : M.Trigger
-  pub on : Bool
-
--- "`+` or `-`, a status"
-unfoldable pub change : List Name → Reader Begun
-change statuses = do
-  g ← oneOf LINE signs
-  x ← known statuses
-  give (record { sign = g; status = x; trigger = M.Trigger.always; on = false })
-
--- "then ` on TRIGGER`"
-unfoldable pub begun : List Name → List Name → Reader Begun
-begun events statuses = do
-  b ← change statuses
-  on ← stands (text " on ")
-  t ← choose on (trigger [] events statuses) (give M.Trigger.always)
-  give (record { sign = b .sign; status = b .status; trigger = t; on = on })
 
 -- "` if CONDITION`", behind l leaves, and the line's end
 unfoldable pub ending : List Name → List Name → Bool → ℕ → Reader (Option Cond)
@@ -97,33 +63,7 @@ row fields events statuses l = do
   c ← ending fields statuses (b .on) l
   give (record { sign = b .sign; status = b .status; trigger = b .trigger; condition = c })
 
--- What the code answers: for a value and the bytes that it took at the start of s, and for a refusal
-abbrev pub asRead : {A B : Type 0} → (A → ℕ → B) → (ℕ → B) → List ℕ → Got A → B
-asRead good bad s (got a l t) = good a (length s - length t)
-asRead good bad s (wrong n l) = bad n
-
-abbrev pub asSign : Got Sign → SignRead
-asSign (got g l t) = G.Sign (isPlus g)
-asSign (wrong n l) = G.Refused n
-
--- a status that rises, or one that falls
-abbrev pub moved : Bool → ℕ → Trigger
-moved true x = Rise x
-moved false x = Fall x
-
-abbrev pub triggerAt : M.Trigger → ℕ → TriggerRead
-triggerAt x n = T.At (asTrigger x) n
-
-abbrev pub asTriggerRead : List ℕ → Got M.Trigger → TriggerRead
-asTriggerRead s g = asRead triggerAt T.Refused s g
-
-abbrev pub startAt : Begun → ℕ → StartRead
-startAt b n = S.At (record { plus = isPlus (b .sign); status = b .status; trigger = asTrigger (b .trigger); on = b .on; bytes = n })
-
-abbrev pub asStart : List ℕ → Got Begun → StartRead
-asStart s g = asRead startAt S.Refused s g
-
--- behind `top` words and `leaves` leaves: how many there are now
+-- What the code answers. Behind `top` words and `leaves` leaves: how many there are now
 abbrev pub endingAt : ℕ → ℕ → Option Cond → ℕ → CondRead
 endingAt top leaves c n = C.At (record { bytes = n; top = top + length (wordsOf c); leaves = leaves + length (leavesOf c) })
 

@@ -1,5 +1,4 @@
--- What readers leave, the names in the tables, and the whole sheet:
-pub mod Suffix
+-- The names in the tables, and the whole sheet:
 pub mod Tables
 pub mod Whole
 pub mod Only

@@ -11,8 +11,8 @@ use Rattle.theory.specs.Determined.{only}
 use Rattle.text.specs.Packed.{named}
 use Rattle.tables.specs.declared.Heads.{Heads}
 use Rattle.tables.specs.Heads.{blank}
-use Rattle.heads.specs.declared.HeadsRead.{HeadsRead}
-use Rattle.heads.specs.Answers.{asHeadsRead}
+use Rattle.fields.specs.declared.HeadsRead.{HeadsRead}
+use Rattle.fields.specs.Answers.{asHeadsRead}
 use Rattle.condition.specs.declared.CondRead.{CondRead}
 use Rattle.condition.specs.Answers.{asCondition, stored}
 use Rattle.rules.specs.declared.Rules.{Rules}

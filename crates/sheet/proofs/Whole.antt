@@ -19,18 +19,18 @@ use Rattle.theory.specs.Faults.{built-faulty}
 use Rattle.theory.specs.Lines.{Within, built-within}
 use Rattle.theory.specs.Formed.{Well}
 use Rattle.theory.specs.Sheets.{heads-well}
+use Rattle.theory.specs.Suffix.{built-leaves, end-is}
 use Rattle.text.specs.Packed.{named}
 use Rattle.tables.specs.declared.Heads.{Heads}
 use Rattle.tables.specs.Heads.{blank, allNames, asHeads}
-use Rattle.heads.specs.declared.HeadsRead.{HeadsRead}
-use Rattle.heads.specs.Answers.{asHeadsRead}
+use Rattle.fields.specs.declared.HeadsRead.{HeadsRead}
+use Rattle.fields.specs.Answers.{asHeadsRead}
 use Rattle.rules.specs.declared.Rules.{Rules}
 use Rattle.rules.specs.declared.RulesRead.{RulesRead}
 use Rattle.rules.specs.Answers.{allWords, asRules, asRulesRead, wordsSpace, Ready}
 use Rattle.rules.proofs.Callers.{rules-got, rules-wrong, rules-words}
 use Rattle.sheet.specs.declared.SheetRead.{SheetRead}
 use Rattle.sheet.specs.Answers.{refusedSheet, asSheetRead}
-use Rattle.sheet.proofs.Suffix.{built-leaves, end-is}
 use Rattle.sheet.proofs.Tables.{fields-named, events-named, statuses-named}
 
 -- a refusal is made of blank parts

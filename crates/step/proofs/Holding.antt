@@ -27,8 +27,10 @@ use Rattle.verdict.specs.Fits.{Fits}
 use Rattle.verdict.proofs.Size.{words-length}
 use Rattle.verdict.proofs.Callers.{verdict-is, verdict-true}
 use Rattle.rules.specs.declared.Rule.{Rule}
-use Rattle.rules.specs.Answers.{isPlus, asTrigger, wordsOf, asRule, asRows, allWords}
-use Rattle.plan.specs.Plan.{nodeOf, groupOf}
+use Rattle.trigger.specs.Answers.{isPlus, asTrigger}
+use Rattle.rules.specs.Answers.{nodeOf, wordsOf, asRule, asRows, allWords}
+use Rattle.rules.proofs.Callers.{node-same as row-node}
+use Rattle.plan.specs.Plan.{groupOf}
 use Rattle.plan.proofs.Laws.{group-hit, group-miss}
 use Rattle.step.specs.Run.{triggerMet, conditionMet, homeMet, parentFell, closes, mayChange, ruleMet, nodeMet}
 use Rattle.step.specs.Moment.{marked, givenAt}
@@ -193,14 +195,6 @@ module _ (sh : Sheet) (m : Moment) (half : List Bool) where
 
   -- THE RULES OF A NODE
 
-  node-of : (top : ℕ) (r : M.Rule) → nodeOf (asRule top r) ≡ consequent r
-  unfolding asRule consequent
-  node-of top r = go (r .sign)
-    where
-      go : (s : Sign) → cond (isPlus s) (up (r .status)) (down (r .status)) ≡ node s (r .status)
-      go plus = refl
-      go minus = refl
-
   none-group : (k : ℕ) → mayChange (marked (m .before)) k && any (ruleMet (givenAt sh m) (marked half)) (groupOf [] k) ≡ any (holds sh m half) (keep (λ r. eqb (consequent r) k) [])
   unfolding groupOf keep any
   none-group k = and-false (mayChange (marked (m .before)) k)
@@ -226,12 +220,12 @@ module _ (sh : Sheet) (m : Moment) (half : List Bool) where
       go : (b : Bool) → eqb (consequent r) k ≡ b → met (groupOf (asRows (top + n) rs) k) ≡ any (holds sh m half) (keep (λ r. eqb (consequent r) k) rs)
           → met (groupOf (asRule top r ∷ asRows (top + n) rs) k) ≡ any (holds sh m half) (keep (λ r. eqb (consequent r) k) (r ∷ rs))
       go true f ih =
-          ap met (group-hit (asRule top r) (asRows (top + n) rs) k (ap (λ n. eqb n k) (node-of top r) ∙ f))
+          ap met (group-hit (asRule top r) (asRows (top + n) rs) k (ap (λ n. eqb n k) (row-node top r) ∙ f))
           ∙ and-or (mayChange (marked (m .before)) k) (ruleMet (givenAt sh m) (marked half) (asRule top r)) (any (ruleMet (givenAt sh m) (marked half)) (groupOf (asRows (top + n) rs) k))
           ∙ ap₂ _||_ (holds-same top (allWords rs ++ rest) r k (fits r (inl refl)) here (eqb-true (consequent r) k f)) ih
           ∙ ap (any (holds sh m half)) (sym (keep-hit (λ r. eqb (consequent r) k) r rs f))
       go false f ih =
-          ap met (group-miss (asRule top r) (asRows (top + n) rs) k (ap (λ n. eqb n k) (node-of top r) ∙ f))
+          ap met (group-miss (asRule top r) (asRows (top + n) rs) k (ap (λ n. eqb n k) (row-node top r) ∙ f))
           ∙ ih
           ∙ ap (any (holds sh m half)) (sym (keep-miss (λ r. eqb (consequent r) k) r rs f))
 

@@ -14,8 +14,8 @@ use borrow.Author.Tests.{eq-eqb, ne-eqb, lt-ltb, le-ltb, not-true, not-false}
 use Rattle.meaning.specs.Text.{any}
 use Rattle.meaning.specs.Step.{rising}
 use Rattle.verdict.specs.Machine.{verdictOf}
-use Rattle.rules.specs.declared.Trigger.{Trigger}
-use Rattle.rules.specs.declared.Trigger.the-variants.{Always, Event, Rise, Fall}
+use Rattle.trigger.specs.declared.Trigger.{Trigger}
+use Rattle.trigger.specs.declared.Trigger.the-variants.{Always, Event, Rise, Fall}
 use Rattle.rules.specs.declared.Rule.{Rule}
 use Rattle.plan.specs.declared.Plan.{Plan}
 use Rattle.step.specs.Run as run

@@ -7,7 +7,7 @@ ghost use Rattle.step.specs.Run.{roseIn, fellIn, triggerMet, conditionMe
 ghost use Rattle.step.specs.Run as run;
 use plan::Plan;
 use rules::Rule;
-use rules::Trigger;
+use trigger::Trigger;
 
 // Marks of the statuses: 0 for no, 2 for yes.
 pub struct Marks {

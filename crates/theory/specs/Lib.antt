@@ -20,12 +20,15 @@ pub mod Shelter
 pub mod Cuts
 pub mod Alike
 pub mod Listed
--- How readers are built, and what follows of all of them: the numbers they refuse with, that they do not look at the line's number, and how far lines go:
+-- How readers are built, and what follows of all of them: the numbers they refuse with, that they do not look at the line's number, how far lines go, and where the rest begins:
 pub mod Built
 pub mod BuiltPapers
 pub mod Faults
 pub mod Shift
 pub mod Lines
+pub mod Suffix
+-- One section of the sheet, row after row:
+pub mod Sections
 -- What was read: a logic of readers and papers, and what holds of names, conditions and sheets, numbers, cards and event lines:
 pub mod Readers
 pub mod Names

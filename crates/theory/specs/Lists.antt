@@ -50,7 +50,7 @@ module _ {A B : Type 0} where
   joined-in f b (x ∷ xs) h =
       ⊎-elim (λ k. (x, inl refl, k)) (λ k. let (a, i, j) = joined-in f b xs k in (a, inr i, j)) (in-cases b (f x) (joined f xs) h)
 
-  -- of two lists, and of one member
+  -- of two lists, of one member, and of one member more
   pub joined-both : (f : A → List B) (xs ys : List A) → joined f (xs ++ ys) ≡ joined f xs ++ joined f ys
   unfolding joined
   joined-both f [] ys = refl
@@ -59,6 +59,9 @@ module _ {A B : Type 0} where
   pub joined-one : (f : A → List B) (x : A) → joined f (x ∷ []) ≡ f x
   unfolding joined
   joined-one f x = append-nil (f x)
+
+  pub joined-more : (f : A → List B) (xs : List A) (a : A) → joined f (xs ++ (a ∷ [])) ≡ joined f xs ++ f a
+  joined-more f xs a = joined-both f xs (a ∷ []) ∙ ap (λ l. joined f xs ++ l) (joined-one f a)
 
   -- functions that agree on the members
   pub map-same : (f g : A → B) (xs : List A) → ((x : A) → In x xs → f x ≡ g x) → map f xs ≡ map g xs

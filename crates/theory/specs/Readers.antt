@@ -52,6 +52,11 @@ bind-yields {x = wrong n l} h g = wrong-yields
 pub any-yields : {A B : Type 0} {Q : B → List ℕ → Type 0} {f : A → Reader B} (x : Got A) → ((a : A) (k : ℕ) (t : List ℕ) → Yields (f a k t) Q) → Yields (after x f) Q
 any-yields x g = bind-yields {P = λ a t. Unit {0}} {x = x} (record { of = λ a k t e. tt }) λ a k t u. g a k t
 
+-- one reader after two others
+pub after-after : {A B C : Type 0} (x : Got A) (f : A → Reader B) (g : B → Reader C) → after (after x f) g ≡ after x (λ a l t. after (f a l t) g)
+after-after (got a l t) f g = refl
+after-after (wrong n l) f g = refl
+
 -- WHAT A READER GIVES
 
 -- whatever the reader gives satisfies P

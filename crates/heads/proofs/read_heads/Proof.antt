@@ -1,13 +1,9 @@
+-- The sections one after the other.
+-- Assumes nothing.
 use borrow.Author.Needs.{needs}
 use Rattle.heads.proofs.Whole.{heads-read}
 use Rattle.heads.proofs.read_heads.Statement.{statement}
 use Rattle.heads.proofs.read_heads.Tie as tie
-
-read-model-requires : tie.Need-read-model-requires
-read-model-requires c κs = search (needs, heads-read)
-
-read-fields-requires : tie.Need-read-fields-requires
-read-fields-requires c κs = search (needs, heads-read)
 
 read-events-requires : tie.Need-read-events-requires
 read-events-requires c κs = search (needs, heads-read)
@@ -31,8 +27,6 @@ pub read-heads-spec : {M : Type 1} → statement M
 read-heads-spec =
     tie.close
     (tie.spec
-    read-model-requires
-    read-fields-requires
     read-events-requires
     slice-aggregate-read-statuses
     read-statuses-requires

@@ -1,3 +1,5 @@
+-- At each turn the rest of the section begins at `at`, behind the statuses in the tables.
+-- Assumes nothing.
 use borrow.Author.Needs.{needs}
 use Prim.Native.Nat.{_+_, _-_}
 use Rattle.heads.proofs.Statuses.{Statuses, statusing, statuses-room-5}

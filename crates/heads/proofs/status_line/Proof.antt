@@ -1,3 +1,5 @@
+-- The name, the stage and the LF, one after the other.
+-- Assumes nothing.
 use borrow.Author.Needs.{needs}
 use Rattle.heads.proofs.Status.{lining}
 use Rattle.heads.proofs.status_line.Statement.{statement}

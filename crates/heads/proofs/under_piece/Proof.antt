@@ -1,3 +1,5 @@
+-- A space and a known stage, or nothing.
+-- Assumes nothing.
 use borrow.Author.Needs.{needs}
 use Rattle.heads.proofs.Parent.{undering}
 use Rattle.heads.proofs.under_piece.Statement.{statement}

@@ -5,7 +5,7 @@ use Prim.Native.Nat.{_≤_, _-_}
 use mathlib.Core.Path.{_≡_}
 use mathlib.Core.List.{_++_}
 use lib.ListN.{length, drop, replicate}
-use Rattle.rules.proofs.Sections.{clearing}
+use Rattle.rules.proofs.Cleared.{clearing}
 use Rattle.rules.proofs.clear.Statement.{statement}
 use Rattle.rules.proofs.clear.Tie as tie
 

@@ -1,0 +1,15 @@
+-- The whole table is its part from 0 up to its length.
+-- Assumes nothing.
+use borrow.Author.Needs.{needs}
+use Rattle.trigger.proofs.Pieces.{known-all}
+use Rattle.trigger.proofs.known_in.Statement.{statement}
+use Rattle.trigger.proofs.known_in.Tie as tie
+
+known-name-requires : tie.Need-known-name-requires
+known-name-requires c κs = search needs
+
+returns : tie.Need-returns
+returns c = search (needs, known-all)
+
+pub known-in-spec : {M : Type 1} → statement M
+known-in-spec = tie.close (tie.spec known-name-requires returns)

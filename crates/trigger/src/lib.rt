@@ -1,0 +1,153 @@
+// How a rule's line begins: its sign and status, and the trigger behind ` on `, if one stands there.
+use text::Known;
+ghost use mathlib.Core.Path.{_≡_};
+ghost use mathlib.Core.List.{[], map};
+ghost use Prim.Native.Nat.{_≤_};
+ghost use lib.ListN.{length};
+ghost use Rattle.meaning.specs.Name.{known};
+ghost use Rattle.meaning.specs.Reading.{oneOf};
+ghost use Rattle.meaning.specs.ReadSheet.{signs, trigger};
+ghost use Rattle.text.specs.Packed.{named};
+ghost use Rattle.text.specs.Answers.{asKnown};
+ghost use Rattle.trigger.specs.Answers.{change, begun, asStart};
+ghost use Rattle.trigger.specs.Parts.{eventTrigger, moved, asSign, asTriggerRead};
+
+// What sets a rule off: nothing, an event, or a status that rises or falls; each by its place.
+pub enum Trigger {
+    Always,
+    Event(u8),
+    Rise(u8),
+    Fall(u8),
+}
+
+// A sign: whether it is `+`; or the refusal's number.
+enum SignRead {
+    Sign(bool),
+    Refused(u8),
+}
+
+// A trigger, and how many bytes it took; or the refusal's number.
+enum TriggerRead {
+    At(Trigger, usize),
+    Refused(u8),
+}
+
+// How a rule's line begins: all before ` if `, whether ` on ` stands there, and how many bytes it took.
+pub struct Start {
+    pub plus: bool,
+    pub status: u8,
+    pub trigger: Trigger,
+    pub on: bool,
+    pub bytes: usize,
+}
+
+pub enum StartRead {
+    At(Start),
+    Refused(u8),
+}
+
+// The name at the start of `s`, as its place in the table.
+fn known_in(s: &[u8], table: &[u64]) -> Known
+    ensures { λ r. ⌜ r ≡ asKnown (now (s .entry)) (known (map named (now (table .entry))) 0 (now (s .entry))) ⌝ }
+{
+    text::known_name(s, table, 0, table.len())
+}
+
+// The sign at the start of `s`.
+fn sign(s: &[u8]) -> SignRead
+    ensures { λ r. ⌜ r ≡ asSign (oneOf 2 signs 0 (now (s .entry))) ⌝ }
+{
+    if text::starts(s, b"+") {
+        return SignRead::Sign(true);
+    }
+    if text::starts(s, b"-") {
+        return SignRead::Sign(false);
+    }
+    SignRead::Refused(2)
+}
+
+// A status that rises, or one that falls.
+fn moves(plus: bool, status: u8) -> Trigger
+    ensures { λ r. ⌜ r ≡ moved plus status ⌝ }
+{
+    if plus {
+        return Trigger::Rise(status);
+    }
+    Trigger::Fall(status)
+}
+
+// An event as a trigger.
+fn event_trigger(s: &[u8], events: &[u64]) -> TriggerRead
+    requires { ⌜ length (now events) ≤ 32 ⌝ }
+    ensures { λ r. ⌜ r ≡ asTriggerRead (now (s .entry)) (eventTrigger (map named (now (events .entry))) 0 (now (s .entry))) ⌝ }
+{
+    let p = known_in(s, events);
+    match p {
+        Known::Refused(k) => TriggerRead::Refused(k),
+        Known::At(e, n) => TriggerRead::At(Trigger::Event(e as u8), n),
+    }
+}
+
+// "A trigger is an event, or `+` or `-` and a status": where no sign stands, an event's name is due.
+fn read_trigger(s: &[u8], events: &[u64], statuses: &[u64]) -> TriggerRead
+    requires { ⌜ (length (now events) ≤ 32) × (length (now statuses) ≤ 32) ⌝ }
+    ensures { λ r. ⌜ r ≡ asTriggerRead (now (s .entry)) (trigger [] (map named (now (events .entry))) (map named (now (statuses .entry))) 0 (now (s .entry))) ⌝ }
+{
+    let g = sign(s);
+    let SignRead::Sign(plus) = g else {
+        return event_trigger(s, events);
+    };
+    let p = known_in(text::rest(s, 1), statuses);
+    match p {
+        Known::Refused(k) => TriggerRead::Refused(k),
+        Known::At(x, n) => TriggerRead::At(moves(plus, x as u8), n + 1),
+    }
+}
+
+// The sign and the status that a rule's line begins with.
+fn read_change(s: &[u8], statuses: &[u64]) -> StartRead
+    requires { ⌜ length (now statuses) ≤ 32 ⌝ }
+    ensures { λ r. ⌜ r ≡ asStart (now (s .entry)) (change (map named (now (statuses .entry))) 0 (now (s .entry))) ⌝ }
+{
+    let g = sign(s);
+    let SignRead::Sign(plus) = g else {
+        return StartRead::Refused(2);
+    };
+    let p = known_in(text::rest(s, 1), statuses);
+    match p {
+        Known::Refused(k) => StartRead::Refused(k),
+        Known::At(x, n) => StartRead::At(Start {
+            plus,
+            status: x as u8,
+            trigger: Trigger::Always,
+            on: false,
+            bytes: n + 1,
+        }),
+    }
+}
+
+// The line up to ` if `: sign, status and trigger.
+pub fn read_start(s: &[u8], events: &[u64], statuses: &[u64]) -> StartRead
+    requires { ⌜ (length (now events) ≤ 32) × (length (now statuses) ≤ 32) ⌝ }
+    ensures { λ r. ⌜ r ≡ asStart (now (s .entry)) (begun (map named (now (events .entry))) (map named (now (statuses .entry))) 0 (now (s .entry))) ⌝ }
+{
+    let r = read_change(s, statuses);
+    let StartRead::At(c) = r else {
+        return r;
+    };
+    let behind = text::rest(s, c.bytes);
+    if !text::starts(behind, b" on ") {
+        return r;
+    }
+    let t = read_trigger(text::rest(behind, 4), events, statuses);
+    match t {
+        TriggerRead::Refused(k) => StartRead::Refused(k),
+        TriggerRead::At(trigger, n) => StartRead::At(Start {
+            plus: c.plus,
+            status: c.status,
+            trigger,
+            on: true,
+            bytes: c.bytes + 4 + n,
+        }),
+    }
+}
