@@ -12,6 +12,9 @@ use Rattle.meaning.specs.Reading.{Got, got, wrong, Reader, after, give, notEnde
 use Rattle.meaning.specs.Name.{Name}
 use Rattle.meaning.specs.Condition.{Leaf, Cond, And, Item, leavesC, leavesA, leavesI}
 use Rattle.meaning.specs.ReadCondition.{readLeaf, readAnd, readCond, itemWith, readItem, condition}
+use Rattle.theory.specs.Lists.{take-sets}
+use Rattle.theory.specs.Told.{Told, Any, notEnded-none, notEnded-some}
+use Rattle.theory.specs.Conditions.{Good, told-item, told-cond, told-condition}
 use Rattle.text.proofs.Callers.{begins-fits, stands-here, stands-not, due-ended, due-here, due-not}
 use Rattle.verdict.specs.Flat.{wordsC, wordsA, wordsI, words}
 use Rattle.condition.specs.Answers.{asCondition, stored}
@@ -19,20 +22,7 @@ use Rattle.condition.specs.Parts.{leafItem, asPart, Left, Gives, Within,
 use Rattle.condition.specs.declared.Place.{Place}
 use Rattle.condition.specs.declared.CondRead.{CondRead}
 use Rattle.condition.specs.declared.CondRead.the-variants.{At, Refused}
-use Rattle.condition.proofs.Told.{Told, Any}
-use Rattle.condition.proofs.Finds.{Good, told-item, told-cond, told-condition}
-use Rattle.condition.proofs.Kept.{take-sets, Found, took, given-found, given-refused, gives-found, gives-refused}
-
--- the cases of an item's reader
-none-left : (k : ℕ) (s : List ℕ) → length s ≡ 0 → notEnded k s ≡ wrong 2 k
-unfolding notEnded
-none-left k [] h = refl
-none-left k (x ∷ s) h = absurd (omega arith)
-
-some-left : (k : ℕ) (s : List ℕ) → (length s ≡ 0 → ⊥) → notEnded k s ≡ got tt k s
-unfolding notEnded
-some-left k [] h = absurd (h refl)
-some-left k (x ∷ s) h = refl
+use Rattle.condition.proofs.Kept.{Found, given-found, given-refused, gives-found, gives-refused}
 
 -- the end of a group
 data Shut (s : List ℕ) : Type 0 where
@@ -50,32 +40,32 @@ shuts (x ∷ s) = go (begins (text ")") (x ∷ s)) refl
 module _ (st fd : List Name) (l k : ℕ) (s : List ℕ) where
   case-ended : (d : ℕ) → length s ≡ 0 → readItem st fd d l k s ≡ wrong 2 k
   unfolding readItem itemWith
-  case-ended zero h = rw (none-left k s h)
-  case-ended (suc d) h = rw (none-left k s h)
+  case-ended zero h = rw (notEnded-none k s h)
+  case-ended (suc d) h = rw (notEnded-none k s h)
 
   module _ (h : length s ≡ 0 → ⊥) where
     case-not-deep : begins (text "not ") s ≡ true → readItem st fd 0 l k s ≡ wrong 5 k
     unfolding readItem itemWith
-    case-not-deep b = rw (some-left k s h, stands-here (text "not ") k s true (sym b) refl)
+    case-not-deep b = rw (notEnded-some k s h, stands-here (text "not ") k s true (sym b) refl)
 
     case-not : (d : ℕ) → begins (text "not ") s ≡ true → readItem st fd (suc d) l k s ≡ after (readItem st fd d l k (drop 4 s)) (λ i. give (Item.neg i))
     unfolding readItem itemWith
-    case-not d b = rw (some-left k s h, stands-here (text "not ") k s true (sym b) refl)
+    case-not d b = rw (notEnded-some k s h, stands-here (text "not ") k s true (sym b) refl)
 
     module _ (b : begins (text "not ") s ≡ false) where
       case-leaf : (d : ℕ) → begins (text "(") s ≡ false → readItem st fd d l k s ≡ leafItem st fd l k s
       unfolding readItem itemWith
-      case-leaf zero c = rw (some-left k s h, stands-not (text "not ") k s false (sym b) refl, stands-not (text "(") k s false (sym c) refl)
-      case-leaf (suc d) c = rw (some-left k s h, stands-not (text "not ") k s false (sym b) refl, stands-not (text "(") k s false (sym c) refl)
+      case-leaf zero c = rw (notEnded-some k s h, stands-not (text "not ") k s false (sym b) refl, stands-not (text "(") k s false (sym c) refl)
+      case-leaf (suc d) c = rw (notEnded-some k s h, stands-not (text "not ") k s false (sym b) refl, stands-not (text "(") k s false (sym c) refl)
 
       case-group-deep : begins (text "(") s ≡ true → readItem st fd 0 l k s ≡ wrong 5 k
       unfolding readItem itemWith
-      case-group-deep c = rw (some-left k s h, stands-not (text "not ") k s false (sym b) refl, stands-here (text "(") k s true (sym c) refl)
+      case-group-deep c = rw (notEnded-some k s h, stands-not (text "not ") k s false (sym b) refl, stands-here (text "(") k s true (sym c) refl)
 
       case-group : (d : ℕ) → begins (text "(") s ≡ true
           → readItem st fd (suc d) l k s ≡ after (readCond (readItem st fd d) 513 l k (drop 1 s)) (λ c m u. after (due 5 (text ")") m u) (λ _. give (Item.group c)))
       unfolding readItem itemWith
-      case-group d c = rw (some-left k s h, stands-not (text "not ") k s false (sym b) refl, stands-here (text "(") k s true (sym c) refl)
+      case-group d c = rw (notEnded-some k s h, stands-not (text "not ") k s false (sym b) refl, stands-here (text "(") k s true (sym c) refl)
 
 -- what the condition of a group took lies in the text
 pub item-group-within : (st fd : List Name) (d : ℕ) (neg : Bool) (s v : List ℕ) (top leaves : ℕ) (was is : List ℕ) (r : CondRead)
@@ -85,7 +75,7 @@ item-group-within st fd d neg s v top leaves was is r g ev h = go r refl
     go : (u : CondRead) → r ≡ u → Within s 1 u
     go (Refused c) e = tt
     go (At q) e =
-        let f = given-found _ (wordsC neg false) leavesC (readCond (readItem st fd d) 513 leaves) v top leaves was is r (told-cond st fd (readItem st fd d) (told-item st fd d) 513 leaves v) g q e in
+        let f = given-found _ (wordsC neg false) leavesC (readCond (readItem st fd d) 513 leaves) v top leaves was is r (told-cond st fd d leaves v 513) g q e in
         let w : q .bytes ≤ length s - 1 = rw (← length-drop 1 s, ← ev) (f .within) in omega (arith, h)
 
 -- what an item gives
@@ -148,7 +138,7 @@ module _ (st fd : List Name) (d : ℕ) (neg : Bool) (s : List ℕ) (top leaves :
         module _ (z : d ≡ 0 → ⊥) (v : List ℕ) (ev : v ≡ drop 1 s) (r : CondRead) (is : List ℕ)
             (g : Gives (wordsC neg false) leavesC v top leaves (readCond (readItem st fd (d - 1)) 513 leaves 0 v) r was is) where
           tells : (u : List ℕ) → Told (λ c. Good st fd leaves (leavesC c)) (readCond (readItem st fd (d - 1)) 513 leaves) u
-          tells u = told-cond st fd (readItem st fd (d - 1)) (told-item st fd (d - 1)) 513 leaves u
+          tells u = told-cond st fd (d - 1) leaves u 513
 
           inside : (q : Place) → r ≡ At q → Found (λ c. Good st fd leaves (leavesC c)) (wordsC neg false) leavesC (readCond (readItem st fd (d - 1)) 513 leaves) v top leaves q was is
           inside q e = given-found _ (wordsC neg false) leavesC (readCond (readItem st fd (d - 1)) 513 leaves) v top leaves was is r (tells v) g q e

@@ -9,22 +9,12 @@ use lib.ListN.{length, take, drop, set, length-append, length-drop}
 use lib.Seq.{sets, take-set-le, take-take}
 use Rattle.meaning.specs.Reading.{Got, got, wrong, Reader}
 use Rattle.meaning.specs.Condition.{Leaf, Cond, And, Item, leavesC, leavesA, leavesI}
+use Rattle.theory.specs.Told.{Told, took}
 use Rattle.verdict.specs.Flat.{bit, join, wordsC, wordsA, wordsI}
 use Rattle.condition.specs.Parts.{asPart, Left, Gives, further}
 use Rattle.condition.specs.declared.Place.{Place}
 use Rattle.condition.specs.declared.CondRead.{CondRead}
 use Rattle.condition.specs.declared.CondRead.the-variants.{At, Refused}
-use Rattle.condition.proofs.Told.{Told}
-
--- words stored behind words
-pub sets-append : (xs ys l : List ℕ) (i : ℕ) → sets (sets l i xs) (i + length xs) ys ≡ sets l i (xs ++ ys)
-sets-append [] ys l i = rw add-zero
-sets-append (x ∷ xs) ys l i = rw (add-suc i (length xs), ← suc-add i (length xs)) (sets-append xs ys (set l i x) (suc i))
-
--- those below are as they were
-pub take-sets : (n : ℕ) (xs l : List ℕ) (i : ℕ) → n ≤ i → take n (sets l i xs) ≡ take n l
-take-sets n [] l i h = refl
-take-sets n (x ∷ xs) l i h = take-sets n xs (set l i x) (suc i) (omega arith) ∙ take-set-le n l i x h
 
 pub length-join : (j : Bool) (w : ℕ) → length (join j w) ≡ bit j
 length-join true w = refl
@@ -60,10 +50,6 @@ pub record Found {T : Type 0} (P : T → Type 0) (ws : T → List ℕ) (ls : T �
   pub words : q .top ≡ top + length (ws value)
   pub counts : q .leaves ≡ leaves + length (ls value)
   pub space : is ≡ sets was top (ws value)
-
--- the bytes of what was read
-pub took : (s : List ℕ) (n : ℕ) → n ≤ length s → length s - length (drop n s) ≡ n
-took s n h = rw length-drop (omega arith)
 
 module _ {T : Type 0} (P : T → Type 0) (ws : T → List ℕ) (ls : T → List Leaf) (x : Reader T) (s : List ℕ) (top leaves : ℕ) (was is : List ℕ) where
   pub given-found : (r : CondRead) → Told P x s → Gives ws ls s top leaves (x 0 s) r was is → (q : Place) → r ≡ At q → Found P ws ls x s top leaves q was is

@@ -10,13 +10,15 @@ use lib.Seq.{sets, take-take, drop-drop}
 use Rattle.meaning.specs.Text.{begins}
 use Rattle.meaning.specs.Reading.{Got, got, wrong, Reader, after, give}
 use Rattle.meaning.specs.Condition.{Leaf}
+use Rattle.theory.specs.Lists.{sets-append, take-sets}
+use Rattle.theory.specs.Told.{Told, took}
+use Rattle.text.proofs.Callers.{begins-fits}
 use Rattle.verdict.specs.Flat.{bit, join}
 use Rattle.condition.specs.Parts.{Gives, further}
 use Rattle.condition.specs.declared.Place.{Place}
 use Rattle.condition.specs.declared.CondRead.{CondRead}
 use Rattle.condition.specs.declared.CondRead.the-variants.{At, Refused}
-use Rattle.condition.proofs.Told.{Told, begins-fits}
-use Rattle.condition.proofs.Kept.{sets-append, take-sets, length-join, bit-small, Found, took, given-found, given-refused, gives-found, gives-refused}
+use Rattle.condition.proofs.Kept.{length-join, bit-small, Found, given-found, given-refused, gives-found, gives-refused}
 
 -- so many leaves behind l others, with 2n - 1 words
 pub record Part (l : ℕ) (ws : List ℕ) (ls : List Leaf) : Type 0 where

@@ -14,6 +14,8 @@ use Rattle.meaning.specs.Reading.{Got, got, wrong, Reader, after, give, stands}
 use Rattle.meaning.specs.Name.{Name}
 use Rattle.meaning.specs.Condition.{Leaf, Cond, And, Item, leavesC, leavesA, leavesI}
 use Rattle.meaning.specs.ReadCondition.{readAnd, readCond, readItem}
+use Rattle.theory.specs.Told.{Told}
+use Rattle.theory.specs.Conditions.{Fine, Good, told-item, told-and, told-cond}
 use Rattle.text.specs.Packed.{named}
 use Rattle.text.proofs.Callers.{begins-fits, stands-here, stands-not}
 use Rattle.verdict.specs.Flat.{bit, join, wordsC, wordsA, wordsI}
@@ -22,8 +24,6 @@ use Rattle.condition.specs.Parts.{Gives}
 use Rattle.condition.specs.declared.Place.{Place}
 use Rattle.condition.specs.declared.CondRead.{CondRead}
 use Rattle.condition.specs.declared.CondRead.the-variants.{At, Refused}
-use Rattle.condition.proofs.Told.{Told}
-use Rattle.condition.proofs.Finds.{Fine, Good, told-item, told-and, told-cond}
 use Rattle.condition.proofs.Kept.{words-count-item, words-count-and}
 use Rattle.condition.proofs.Listed.{Part, Kind, Going, going-start, going-refused, going-within, going-few, going-fits, going-end, going-on}
 
@@ -61,11 +61,14 @@ module _ (item : ℕ → Reader Item) (m l k : ℕ) (s : List ℕ) where
   cond-goes a u e b = rw (e, stands-here (text " or ") k u true (sym b) refl)
 
 -- each member has a leaf, so the count of members is never used up
-module _ (st fd : List Name) (item : ℕ → Reader Item) (h : (l : ℕ) (s : List ℕ) → Told (λ i. Good st fd l (leavesI i)) (item l) s) where
+module _ (st fd : List Name) (d : ℕ) where
+  abbrev item : ℕ → Reader Item
+  item = readItem st fd d
+
   and-enough : (m n l : ℕ) → l ≤ 512 → 512 < m + l → 512 < n + l → (k : ℕ) (s : List ℕ) → readAnd item m l k s ≡ readAnd item n l k s
   and-enough zero n l g p q k s = absurd (omega arith)
   and-enough (suc m) zero l g p q k s = absurd (omega arith)
-  and-enough (suc m) (suc n) l g p q k s = go (h l s) (and-enough m n)
+  and-enough (suc m) (suc n) l g p q k s = go (told-item st fd d l s) (and-enough m n)
     where
       go : Told (λ i. Good st fd l (leavesI i)) (item l) s → ((l : ℕ) → l ≤ 512 → 512 < m + l → 512 < n + l → (k : ℕ) (s : List ℕ) → readAnd item m l k s ≡ readAnd item n l k s)
           → readAnd item (suc m) l k s ≡ readAnd item (suc n) l k s
@@ -81,7 +84,7 @@ module _ (st fd : List Name) (item : ℕ → Reader Item) (h : (l : ℕ) (s : Li
   cond-enough : (m n l : ℕ) → l ≤ 512 → 512 < m + l → 512 < n + l → (k : ℕ) (s : List ℕ) → readCond item m l k s ≡ readCond item n l k s
   cond-enough zero n l g p q k s = absurd (omega arith)
   cond-enough (suc m) zero l g p q k s = absurd (omega arith)
-  cond-enough (suc m) (suc n) l g p q k s = go (told-and st fd item h 513 l s) (cond-enough m n)
+  cond-enough (suc m) (suc n) l g p q k s = go (told-and st fd d l s 513) (cond-enough m n)
     where
       go : Told (λ a. Good st fd l (leavesA a)) (readAnd item 513 l) s → ((l : ℕ) → l ≤ 512 → 512 < m + l → 512 < n + l → (k : ℕ) (s : List ℕ) → readCond item m l k s ≡ readCond item n l k s)
           → readCond item (suc m) l k s ≡ readCond item (suc n) l k s
@@ -116,11 +119,11 @@ module _ (st fd : List Name) (d : ℕ) (neg : Bool) where
     one-leaves = λ e. refl;
     more-leaves = λ e a. refl;
     told = λ l s. told-more _ _ (readItem st fd d l) s (told-item st fd d l s) (λ i h. record { some = h .some; few = h .few; count = words-count-item neg i });
-    told-list = λ l s. told-more _ _ (readAnd (readItem st fd d) 513 l) s (told-and st fd (readItem st fd d) (told-item st fd d) 513 l s) (λ a h. tt);
+    told-list = λ l s. told-more _ _ (readAnd (readItem st fd d) 513 l) s (told-and st fd d l s 513) (λ a h. tt);
     fails = λ l k c s e. and-fails (readItem st fd d) 512 l k s c e;
     stops = λ l k s u i e b. and-stops (readItem st fd d) 512 l k s i u e b;
     goes = λ l k s u i h e b. and-goes (readItem st fd d) 512 l k s i u e b
-        ∙ ap (λ g. after g (λ a. give (And.and i a))) (and-enough st fd (readItem st fd d) (told-item st fd d) 512 513 (l + length (leavesI i)) (h .few) (omega (arith, h .some)) (omega arith) k (drop 5 u));
+        ∙ ap (λ g. after g (λ a. give (And.and i a))) (and-enough st fd d 512 513 (l + length (leavesI i)) (h .few) (omega (arith, h .some)) (omega arith) k (drop 5 u));
   }
 
   -- conditions: lists of and-lists
@@ -143,12 +146,12 @@ module _ (st fd : List Name) (d : ℕ) (neg : Bool) where
     more-words = λ j e a. refl;
     one-leaves = λ e. refl;
     more-leaves = λ e a. refl;
-    told = λ l s. told-more _ _ (readAnd (readItem st fd d) 513 l) s (told-and st fd (readItem st fd d) (told-item st fd d) 513 l s) (λ i h. record { some = h .some; few = h .few; count = let z = words-count-and neg false i in omega arith });
-    told-list = λ l s. told-more _ _ (readCond (readItem st fd d) 513 l) s (told-cond st fd (readItem st fd d) (told-item st fd d) 513 l s) (λ a h. tt);
+    told = λ l s. told-more _ _ (readAnd (readItem st fd d) 513 l) s (told-and st fd d l s 513) (λ i h. record { some = h .some; few = h .few; count = let z = words-count-and neg false i in omega arith });
+    told-list = λ l s. told-more _ _ (readCond (readItem st fd d) 513 l) s (told-cond st fd d l s 513) (λ a h. tt);
     fails = λ l k c s e. cond-fails (readItem st fd d) 512 l k s c e;
     stops = λ l k s u i e b. cond-stops (readItem st fd d) 512 l k s i u e b;
     goes = λ l k s u i h e b. cond-goes (readItem st fd d) 512 l k s i u e b
-        ∙ ap (λ g. after g (λ a. give (Cond.or i a))) (cond-enough st fd (readItem st fd d) (told-item st fd d) 512 513 (l + length (leavesA i)) (h .few) (omega (arith, h .some)) (omega arith) k (drop 4 u));
+        ∙ ap (λ g. after g (λ a. give (Cond.or i a))) (cond-enough st fd d 512 513 (l + length (leavesA i)) (h .few) (omega (arith, h .some)) (omega arith) k (drop 4 u));
   }
 
 -- the turns of the and-list's loop

@@ -9,8 +9,8 @@ use lib.Seq.{drop-drop}
 use Rattle.meaning.specs.Text.{text, begins}
 use Rattle.meaning.specs.Reading.{got, wrong, Reader, _>>=_, _>>_, give, lineEnd}
 use Rattle.text.proofs.Callers.{begins-fits, line-end-ended, line-end-here, line-end-not}
-use Rattle.condition.proofs.Told.{Told}
-use Rattle.condition.proofs.Kept.{took}
+use Rattle.theory.specs.Told.{Told}
+use Rattle.theory.specs.Told.{took}
 use Rattle.rules.specs.Parts.{asRead}
 
 -- what stands m bytes on, and n further

@@ -25,7 +25,7 @@ use Rattle.condition.specs.Answers.{asCondition, stored}
 use Rattle.condition.specs.declared.Place.{Place}
 use Rattle.condition.specs.declared.CondRead.{CondRead}
 use Rattle.condition.specs.declared.CondRead.the-variants as C
-use Rattle.condition.proofs.Told.{Told}
+use Rattle.theory.specs.Told.{Told}
 use Rattle.condition.proofs.Callers.{words-leaves, condition-read, condition-wrong}
 use Rattle.rules.specs.Answers.{wordsOf}
 use Rattle.rules.specs.Parts.{plainEnd, askedEnd, ending, asRead, endingAt, asEnding, Stored}

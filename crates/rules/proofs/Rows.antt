@@ -17,7 +17,7 @@ use Rattle.text.specs.Packed.{named}
 use Rattle.condition.specs.declared.Place.{Place}
 use Rattle.condition.specs.declared.CondRead.{CondRead}
 use Rattle.condition.specs.declared.CondRead.the-variants as C
-use Rattle.condition.proofs.Told.{Any}
+use Rattle.theory.specs.Told.{Any}
 use Rattle.rules.specs.declared.Rule.{Rule}
 use Rattle.rules.specs.declared.Start.{Start}
 use Rattle.rules.specs.declared.StartRead.{StartRead}

@@ -18,7 +18,7 @@ use Rattle.meaning.specs.ReadSheet.{section, ruleRow}
 use Rattle.text.specs.Packed.{named}
 use Rattle.text.proofs.Callers.{begins-fits}
 use Rattle.tables.specs.Heads.{padded}
-use Rattle.condition.proofs.Kept.{sets-append}
+use Rattle.theory.specs.Lists.{sets-append}
 use Rattle.rules.specs.declared.Rule.{Rule}
 use Rattle.rules.specs.declared.Rules.{Rules}
 use Rattle.rules.specs.declared.Row.{Row}

@@ -3,6 +3,7 @@ use Prim.Native.Nat.{ℕ, suc}
 use mathlib.Core.Path.{_≡_, refl, ap, subst}
 use mathlib.Core.Bool.{Bool, true, false, cond, false≢true}
 use mathlib.Core.List.{List, [], _∷_}
+use native.Mathlib.Omega.{arith}
 use lib.ListN.{length, drop}
 use Rattle.meaning.specs.Text.{text, begins}
 use Rattle.meaning.specs.Reading.{Got, got, wrong, Reader, after, demand, notEnded, stands, due, longest, lineEnd, paperEnd}
@@ -45,3 +46,6 @@ built-faulty (stands-built w) l s = go (begins w s)
     go false = tt
 built-faulty (longest-built p) l s = tt
 built-faulty (lineEnd-built {n = n} h) l s = line-faulty n h l s
+
+pub built-number : {A : Type 0} {r : Reader A} → Built r → (l : ℕ) (s : List ℕ) (n k : ℕ) → r l s ≡ wrong n k → n ≡ 0 → ⊥
+built-number h l s n k e z = omega (arith, subst Faulty e (built-faulty h l s) .0)

@@ -1,9 +1,9 @@
--- `condition::leaf` meets its contract: the name decides, and comparing packed names finds what comparing names finds.
+-- `leaf::read_leaf` meets its contract: the name decides, and comparing packed names finds what comparing names finds.
 -- Assumes nothing.
 use borrow.Author.Needs.{needs}
-use Rattle.condition.proofs.Leaves.{leafing}
-use Rattle.condition.proofs.leaf.Statement.{statement}
-use Rattle.condition.proofs.leaf.Tie as tie
+use Rattle.leaf.proofs.Leaves.{leafing}
+use Rattle.leaf.proofs.read_leaf.Statement.{statement}
+use Rattle.leaf.proofs.read_leaf.Tie as tie
 
 name-piece-requires : tie.Need-name-piece-requires
 name-piece-requires c κs = search (needs, leafing)
@@ -23,8 +23,8 @@ returns c = search (needs, leafing)
 returns-2 : tie.Need-returns-2
 returns-2 c = search (needs, leafing)
 
-pub leaf-spec : {M : Type 1} → statement M
-leaf-spec =
+pub read-leaf-spec : {M : Type 1} → statement M
+read-leaf-spec =
     tie.close
     (tie.spec
     name-piece-requires

@@ -1,9 +1,9 @@
--- `condition::sign_piece` meets its contract: the texts are tried in the order of the definition.
+-- `leaf::sign_piece` meets its contract: the texts are tried in the order of the definition.
 -- Assumes nothing.
 use borrow.Author.Needs.{needs}
-use Rattle.condition.proofs.Leaves.{signing}
-use Rattle.condition.proofs.sign_piece.Statement.{statement}
-use Rattle.condition.proofs.sign_piece.Tie as tie
+use Rattle.leaf.proofs.Leaves.{signing}
+use Rattle.leaf.proofs.sign_piece.Statement.{statement}
+use Rattle.leaf.proofs.sign_piece.Tie as tie
 
 returns : tie.Need-returns
 returns c = search (needs, signing)

@@ -52,7 +52,7 @@ find-name w (k ∷ ks) i e = go (same w k) refl (find w ks) i e (find-name w ks)
         rw (← z) (ih j refl)
 
 -- a name of the list
-known-spells : (ns : List Name) → Spells [] (known ns) (λ i. getD ns i [])
+pub known-spells : (ns : List Name) → Spells [] (known ns) (λ i. getD ns i [])
 unfolding known
 known-spells ns = bind-spells name-spells λ w. go w (find w ns) refl
   where

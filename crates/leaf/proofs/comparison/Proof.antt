@@ -1,9 +1,9 @@
--- `condition::comparison` meets its contract: the sign, then the number behind it, decide as in the definition.
+-- `leaf::comparison` meets its contract: the sign, then the number behind it, decide as in the definition.
 -- Assumes nothing.
 use borrow.Author.Needs.{needs}
-use Rattle.condition.proofs.Leaves.{comparing, comparison-small}
-use Rattle.condition.proofs.comparison.Statement.{statement}
-use Rattle.condition.proofs.comparison.Tie as tie
+use Rattle.leaf.proofs.Leaves.{comparing, comparison-small}
+use Rattle.leaf.proofs.comparison.Statement.{statement}
+use Rattle.leaf.proofs.comparison.Tie as tie
 
 rest-requires : tie.Need-rest-requires
 rest-requires c κs = search (needs, comparing)

@@ -1,9 +1,9 @@
--- `condition::word_of` meets its contract: the sum is that of the definition, and its parts are small enough.
+-- `leaf::word_of` meets its contract: the sum is that of the definition, and its parts are small enough.
 -- Assumes nothing.
 use Rattle.verdict.specs.Flat.{word}
 use borrow.Author.Needs.{needs}
-use Rattle.condition.proofs.word_of.Statement.{statement}
-use Rattle.condition.proofs.word_of.Tie as tie
+use Rattle.leaf.proofs.word_of.Statement.{statement}
+use Rattle.leaf.proofs.word_of.Tie as tie
 
 mul-result : tie.Need-mul-result
 mul-result c = search needs

@@ -19,6 +19,8 @@ use Rattle.meaning.specs.Number.{number, Written}
 use Rattle.meaning.specs.Condition.{Operator, below, atMost, equal, atLeast, above, Comparison, Leaf}
 use Rattle.meaning.specs.ReadCondition.{operator, readLeaf}
 use Rattle.meaning.specs.ReadCondition.{named as namedLeaf}
+use Rattle.theory.specs.BuiltPapers.{operator-built}
+use Rattle.theory.specs.Told.{Told, Any, took, inline-told, notEnded-none, notEnded-some}
 use Rattle.text.specs.Packed.{named, packed}
 use Rattle.text.specs.Answers.{asName, foundIn}
 use Rattle.text.specs.declared.NamePiece.{NamePiece}
@@ -32,16 +34,13 @@ use Rattle.number.specs.declared.NumberPiece.{NumberPiece}
 use Rattle.number.specs.declared.NumberPiece.the-variants as P
 use Rattle.number.proofs.Callers.{number-wrong, number-got, number-fits, number-small}
 use Rattle.verdict.specs.Flat.{bit, word, comparisonWord, leafWord}
-use Rattle.condition.specs.Parts.{signOf, operatorOf, asSign, asLeaf, comparison, placeIn}
-use Rattle.condition.specs.declared.Sign.{Sign}
-use Rattle.condition.specs.declared.Sign.the-variants as S
-use Rattle.condition.specs.declared.SignRead.{SignRead}
-use Rattle.condition.specs.declared.SignRead.the-variants as O
-use Rattle.condition.specs.declared.LeafRead.{LeafRead}
-use Rattle.condition.specs.declared.LeafRead.the-variants as L
-use Rattle.condition.proofs.Told.{Told, Any}
-use Rattle.condition.proofs.Finds.{told-operator}
-use Rattle.condition.proofs.Kept.{took}
+use Rattle.leaf.specs.Answers.{signOf, operatorOf, asSign, asLeaf, comparison, placeIn}
+use Rattle.leaf.specs.declared.Sign.{Sign}
+use Rattle.leaf.specs.declared.Sign.the-variants as S
+use Rattle.leaf.specs.declared.SignRead.{SignRead}
+use Rattle.leaf.specs.declared.SignRead.the-variants as O
+use Rattle.leaf.specs.declared.LeafRead.{LeafRead}
+use Rattle.leaf.specs.declared.LeafRead.the-variants as L
 
 -- the words of the five signs
 module _ (neg : Bool) (f k : ℕ) (c : Sign) (b r : ℕ) where
@@ -69,45 +68,39 @@ pub ruleset signed = (word-below, word-at-most, word-equal, word-at-least, word-
 
 -- the signs, the longer ones first
 pub sign-ended : (s : List ℕ) → length s ≡ 0 → O.Refused 2 ≡ asSign s (operator 0 s)
-unfolding operator notEnded
-sign-ended [] h = refl
-sign-ended (x ∷ s) h = absurd (omega arith)
-
-started : (s : List ℕ) → (length s ≡ 0 → ⊥) → notEnded 0 s ≡ got tt 0 s
-unfolding notEnded
-started [] h = absurd (h refl)
-started (x ∷ s) h = refl
+unfolding operator
+sign-ended s h = sym (rw (notEnded-none 0 s h))
 
 module _ (s : List ℕ) (h : length s ≡ 0 → ⊥) (a : Bool) (ea : a ≡ begins (text "<=") s) where
   pub sign-at-most : a ≡ true → O.Sign S.AtMost 2 ≡ asSign s (operator 0 s)
   unfolding operator oneOf
-  sign-at-most t = sym (rw (started s h, stands-here (text "<=") 0 s a ea t, took s 2 (begins-fits (text "<=") s (sym ea ∙ t))))
+  sign-at-most t = sym (rw (notEnded-some 0 s h, stands-here (text "<=") 0 s a ea t, took s 2 (begins-fits (text "<=") s (sym ea ∙ t))))
 
   module _ (ta : a ≡ false) (b : Bool) (eb : b ≡ begins (text ">=") s) where
     pub sign-at-least : b ≡ true → O.Sign S.AtLeast 2 ≡ asSign s (operator 0 s)
     unfolding operator oneOf
-    sign-at-least t = sym (rw (started s h, stands-not (text "<=") 0 s a ea ta, stands-here (text ">=") 0 s b eb t, took s 2 (begins-fits (text ">=") s (sym eb ∙ t))))
+    sign-at-least t = sym (rw (notEnded-some 0 s h, stands-not (text "<=") 0 s a ea ta, stands-here (text ">=") 0 s b eb t, took s 2 (begins-fits (text ">=") s (sym eb ∙ t))))
 
     module _ (tb : b ≡ false) (c : Bool) (ec : c ≡ begins (text "<") s) where
       pub sign-below : c ≡ true → O.Sign S.Below 1 ≡ asSign s (operator 0 s)
       unfolding operator oneOf
-      sign-below t = sym (rw (started s h, stands-not (text "<=") 0 s a ea ta, stands-not (text ">=") 0 s b eb tb, stands-here (text "<") 0 s c ec t, took s 1 (begins-fits (text "<") s (sym ec ∙ t))))
+      sign-below t = sym (rw (notEnded-some 0 s h, stands-not (text "<=") 0 s a ea ta, stands-not (text ">=") 0 s b eb tb, stands-here (text "<") 0 s c ec t, took s 1 (begins-fits (text "<") s (sym ec ∙ t))))
 
       module _ (tc : c ≡ false) (d : Bool) (ed : d ≡ begins (text "=") s) where
         pub sign-equal : d ≡ true → O.Sign S.Equal 1 ≡ asSign s (operator 0 s)
         unfolding operator oneOf
         sign-equal t =
-            sym (rw (started s h, stands-not (text "<=") 0 s a ea ta, stands-not (text ">=") 0 s b eb tb, stands-not (text "<") 0 s c ec tc, stands-here (text "=") 0 s d ed t, took s 1 (begins-fits (text "=") s (sym ed ∙ t))))
+            sym (rw (notEnded-some 0 s h, stands-not (text "<=") 0 s a ea ta, stands-not (text ">=") 0 s b eb tb, stands-not (text "<") 0 s c ec tc, stands-here (text "=") 0 s d ed t, took s 1 (begins-fits (text "=") s (sym ed ∙ t))))
 
         module _ (td : d ≡ false) (e : Bool) (ee : e ≡ begins (text ">") s) where
           pub sign-above : e ≡ true → O.Sign S.Above 1 ≡ asSign s (operator 0 s)
           unfolding operator oneOf
           sign-above t =
-              sym (rw (started s h, stands-not (text "<=") 0 s a ea ta, stands-not (text ">=") 0 s b eb tb, stands-not (text "<") 0 s c ec tc, stands-not (text "=") 0 s d ed td, stands-here (text ">") 0 s e ee t, took s 1 (begins-fits (text ">") s (sym ee ∙ t))))
+              sym (rw (notEnded-some 0 s h, stands-not (text "<=") 0 s a ea ta, stands-not (text ">=") 0 s b eb tb, stands-not (text "<") 0 s c ec tc, stands-not (text "=") 0 s d ed td, stands-here (text ">") 0 s e ee t, took s 1 (begins-fits (text ">") s (sym ee ∙ t))))
 
           pub sign-none : e ≡ false → O.Refused 5 ≡ asSign s (operator 0 s)
           unfolding operator oneOf
-          sign-none t = sym (rw (started s h, stands-not (text "<=") 0 s a ea ta, stands-not (text ">=") 0 s b eb tb, stands-not (text "<") 0 s c ec tc, stands-not (text "=") 0 s d ed td, stands-not (text ">") 0 s e ee t))
+          sign-none t = sym (rw (notEnded-some 0 s h, stands-not (text "<=") 0 s a ea ta, stands-not (text ">=") 0 s b eb tb, stands-not (text "<") 0 s c ec tc, stands-not (text "=") 0 s d ed td, stands-not (text ">") 0 s e ee t))
 
 pub ruleset signing = (sign-ended, sign-at-most, sign-at-least, sign-below, sign-equal, sign-above, sign-none)
 
@@ -121,14 +114,14 @@ operator-of above = refl
 
 module _ (v : List ℕ) (o : SignRead) (is : o ≡ asSign v (operator 0 v)) where
   sign-wrong : (k : ℕ) → o ≡ O.Refused k → operator 0 v ≡ wrong k 0
-  sign-wrong k told = go (told-operator v)
+  sign-wrong k told = go (inline-told operator-built v)
     where
       go : Told Any operator v → operator 0 v ≡ wrong k 0
       go (Told.found x n u h e) = let q : o ≡ O.Sign (signOf x) (length v - length (drop n v)) = is ∙ rw (e 0) in let z : _≡_ {A = ℕ} 0 1 = cc in absurd (omega arith)
       go (Told.faulty c e) = let q : o ≡ O.Refused c = is ∙ rw (e 0) in let z : c ≡ k = cc in e 0 ∙ ap (λ (i : ℕ). wrong i 0) z
 
   sign-got : (c : Sign) (k : ℕ) → o ≡ O.Sign c k → (operator 0 v ≡ got (operatorOf c) 0 (drop k v)) × (k ≤ length v)
-  sign-got c k told = go (told-operator v)
+  sign-got c k told = go (inline-told operator-built v)
     where
       go : Told Any operator v → (operator 0 v ≡ got (operatorOf c) 0 (drop k v)) × (k ≤ length v)
       go (Told.faulty j e) = let q : o ≡ O.Refused j = is ∙ rw (e 0) in let z : _≡_ {A = ℕ} 0 1 = cc in absurd (omega arith)

@@ -1,9 +1,9 @@
--- `condition::known_leaf` meets its contract: the place that `find` tells, and the count of leaves, pick the case of the definition.
+-- `leaf::known_leaf` meets its contract: the place that `find` tells, and the count of leaves, pick the case of the definition.
 -- Assumes nothing.
 use borrow.Author.Needs.{needs}
-use Rattle.condition.proofs.Leaves.{knowing}
-use Rattle.condition.proofs.known_leaf.Statement.{statement}
-use Rattle.condition.proofs.known_leaf.Tie as tie
+use Rattle.leaf.proofs.Leaves.{knowing}
+use Rattle.leaf.proofs.known_leaf.Statement.{statement}
+use Rattle.leaf.proofs.known_leaf.Tie as tie
 
 find-requires : tie.Need-find-requires
 find-requires c κs = search (needs, knowing)

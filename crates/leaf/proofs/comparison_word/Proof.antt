@@ -1,9 +1,9 @@
--- `condition::comparison_word` meets its contract: each sign has its clause of `comparisonWord`.
+-- `leaf::comparison_word` meets its contract: each sign has its clause of `comparisonWord`.
 -- Assumes nothing.
 use borrow.Author.Needs.{needs}
-use Rattle.condition.proofs.Leaves.{signed}
-use Rattle.condition.proofs.comparison_word.Statement.{statement}
-use Rattle.condition.proofs.comparison_word.Tie as tie
+use Rattle.leaf.proofs.Leaves.{signed}
+use Rattle.leaf.proofs.comparison_word.Statement.{statement}
+use Rattle.leaf.proofs.comparison_word.Tie as tie
 
 enum-told : tie.Need-enum-told
 enum-told c = search (needs, signed)
