@@ -17,6 +17,8 @@ use Rattle.meaning.specs.Number.{Entry, endLine}
 use Rattle.meaning.specs.Sheet.{Sheet, statuses, statusNames}
 use Rattle.meaning.specs.Card as M
 use Rattle.meaning.specs.Card.{fieldEntry, statusMark, ended, card, orphan, sheltered, readCard}
+use Rattle.theory.specs.BuiltPapers.{card-built}
+use Rattle.theory.specs.Faults.{built-number}
 use Rattle.text.specs.declared.Bytes.{Bytes}
 use Rattle.text.specs.declared.Bytes.the-variants as B
 use Rattle.text.specs.Answers.{asBytes}
@@ -39,7 +41,6 @@ use Rattle.lines.specs.Answers.{bytesFault, caseLine}
 use Rattle.lines.proofs.Told.{after-after}
 use Rattle.lines.proofs.Pieces.{Took}
 use Rattle.lines.proofs.Callers.{case-took, case-kept}
-use Rattle.card.proofs.Faults.{Sound, sounds-card}
 use Rattle.card.proofs.Rows.{names-length, each-length}
 use Rattle.card.proofs.Marks.{orphan-same, marks-side, orphan-below}
 use Rattle.card.proofs.Sheets.{length-held, model-is, fields-are, statuses-are, stages-length}
@@ -206,11 +207,11 @@ pub record CardTaken (sh : Sheet) (s : List ℕ) (r : CardRead) : Type 0 where
 
 module _ (sh : Sheet) (s : List ℕ) (r : CardRead) (lines : r ≡ asCardRead sh (answered 2 (card sh 1 s))) where
   lines-taken : r .number ≡ 0 → CardTaken sh s r
-  lines-taken z = go (card sh 1 s) refl (sounds-card sh .of 1 s)
+  lines-taken z = go (card sh 1 s) refl
     where
-      go : (g : Got M.Card) → card sh 1 s ≡ g → Sound g → CardTaken sh s r
-      go (got c l t) e h = record { card = c; line = l; rest = t; is = e; told = lines ∙ rw e }
-      go (wrong k l) e h = let y : r ≡ refusedCard k l = lines ∙ rw e in absurd (h (sym (ap (λ a. a .number) y) ∙ z))
+      go : (g : Got M.Card) → card sh 1 s ≡ g → CardTaken sh s r
+      go (got c l t) e = record { card = c; line = l; rest = t; is = e; told = lines ∙ rw e }
+      go (wrong k l) e = let y : r ≡ refusedCard k l = lines ∙ rw e in absurd (built-number (card-built sh) 1 s k l e (sym (ap (λ a. a .number) y) ∙ z))
 
   lines-refused : (r .number ≡ 0 → ⊥) → (f : M.Card → Answer M.Card) → r ≡ asCardRead sh (onTaken (answered 2 (card sh 1 s)) f)
   lines-refused n f = go (card sh 1 s) refl

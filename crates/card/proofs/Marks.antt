@@ -17,6 +17,8 @@ use Rattle.meaning.specs.Reading.{Got, got, wrong, each}
 use Rattle.meaning.specs.Name.{Name}
 use Rattle.meaning.specs.Sheet.{Status}
 use Rattle.meaning.specs.Card.{is, statusMark, ended, shut, orphan}
+use Rattle.theory.specs.BuiltPapers.{ended-built, mark-line-built}
+use Rattle.theory.specs.Faults.{built-number}
 use Rattle.text.specs.Packed.{named}
 use Rattle.tables.specs.declared.Heads.{Heads}
 use Rattle.tables.specs.Heads.{Sized, padded, underOf, statusAt, headsOf}
@@ -29,7 +31,6 @@ use Rattle.card.specs.Parts.{MarksAs, sideOf, asOrphan}
 use Rattle.lines.specs.Answers.{asMark}
 use Rattle.lines.proofs.Pieces.{Marked}
 use Rattle.lines.proofs.Callers.{status-took, status-kept}
-use Rattle.card.proofs.Faults.{sound-wrong, sounds-status}
 use Rattle.card.proofs.Rows.{column-more, names-cons, names-length, before, before-none, each-wrong, each-more, each-over}
 
 -- THE LINES
@@ -79,7 +80,7 @@ module _ (s names : List ℕ) (first count p line at : ℕ) (marks : List ℕ) (
         let w : ended (statusMark (named (getD names j 0))) l t ≡ wrong k l = status-kept _ t q is k e l in
         let u : statusLines (map named (take count (drop first names))) line (drop p s) ≡ wrong k l
         = g .same ∙ rw (← y, ← rest, here) (each-wrong _ _ _ l t k l (g .bs) w) in
-        let n : k ≡ 0 → ⊥ = sound-wrong _ k l (sounds-status (named (getD names j 0)) .of l t) w in
+        let n : k ≡ 0 → ⊥ = built-number (ended-built (mark-line-built (named (getD names j 0)))) l t k l w in
         record { few = held; gave = record { within = omega (arith, z .2); low = omega (arith, z .1); good = λ o. absurd (n (sym (z .0) ∙ o)); bad = λ _. u ∙ rw (z .0, z .1) } }
 
     module _ (b n : ℕ) (e : q ≡ M.Mark b n) where

@@ -25,15 +25,16 @@ use Rattle.theory.specs.Formed.{Each, EventIn, Well}
 use Rattle.theory.specs.Cards.{CardIn, HappeningIn}
 use Rattle.theory.specs.Papers.{card-holds, event-holds}
 use Rattle.theory.specs.Written.{readCard-text}
-use Rattle.write.proofs.EventText.{putText, eventText, happening-text}
+use Rattle.theory.specs.EventText.{putText, eventText, happening-text}
 use Rattle.text.specs.declared.Found.{Found}
 use Rattle.text.specs.declared.Found.the-variants as F
 use Rattle.text.specs.Answers.{foundIn, further}
 use Rattle.text.proofs.Callers.{found-within}
 use Rattle.tables.specs.Heads.{padded}
 use Rattle.card.specs.declared.Card.{Card}
-use Rattle.card.specs.declared.Happening.{Happening}
-use Rattle.card.specs.Answers.{markCode, valuePlaces, asCard, asHappening}
+use Rattle.event.specs.declared.Happening.{Happening}
+use Rattle.card.specs.Answers.{markCode, valuePlaces, asCard}
+use Rattle.event.specs.Answers.{asHappening}
 use Rattle.write.specs.Texts.{part, shownBy, valueText, showing, isYes, nextText}
 use Rattle.write.proofs.Laws.{line-long}
 

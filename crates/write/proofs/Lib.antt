@@ -4,8 +4,7 @@ pub mod Laws
 pub mod Rows
 -- The whole card:
 pub mod Whole
--- An event line is the text of what was read; what callers may conclude:
-pub mod EventText
+-- What callers may conclude:
 pub mod Callers
 -- No second answer fits:
 pub mod Only

@@ -15,7 +15,7 @@ use Rattle.text.specs.Packed.{named}
 use Rattle.tables.specs.declared.Heads.{Heads}
 use Rattle.tables.specs.Heads.{headsOf, namesAt, statusAt, Sized}
 use Rattle.card.specs.declared.Card.{Card}
-use Rattle.card.specs.declared.Happening.{Happening}
+use Rattle.event.specs.declared.Happening.{Happening}
 use Rattle.write.specs.declared.Written.{Written}
 use Rattle.write.specs.declared.Written.the-variants.{Bytes, Room}
 use Rattle.write.specs.Texts.{showing, isYes, valueText, nextText}

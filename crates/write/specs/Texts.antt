@@ -13,7 +13,7 @@ use Rattle.text.specs.Answers.{foundIn}
 use Rattle.text.specs.declared.Found.{Found}
 use Rattle.text.specs.declared.Found.the-variants as F
 use Rattle.card.specs.declared.Card.{Card}
-use Rattle.card.specs.declared.Happening.{Happening}
+use Rattle.event.specs.declared.Happening.{Happening}
 
 -- a part of a text
 abbrev pub part : List ℕ → ℕ → ℕ → List ℕ

@@ -13,7 +13,7 @@ ghost use Rattle.write.specs.Texts.{part, isYes, valueText, nextText};
 ghost use Rattle.write.specs.Answers.{asWritten, spaceWith};
 ghost use Rattle.write.specs.Lines.{Wrote, markAt, linesFrom};
 use card::Card;
-use card::Happening;
+use event::Happening;
 use tables::Heads;
 use text::Found;
 

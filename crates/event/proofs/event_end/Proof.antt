@@ -1,9 +1,9 @@
--- `card::event_end` meets its contract. The LF is read, and nothing may stand behind it.
+-- `event::event_end` meets its contract. The LF is read, and nothing may stand behind it.
 -- Assumes nothing.
 use borrow.Author.Needs.{needs}
-use Rattle.card.proofs.Events.{ending}
-use Rattle.card.proofs.event_end.Statement.{statement}
-use Rattle.card.proofs.event_end.Tie as tie
+use Rattle.event.proofs.Events.{ending}
+use Rattle.event.proofs.event_end.Statement.{statement}
+use Rattle.event.proofs.event_end.Tie as tie
 
 line-end-requires : tie.Need-line-end-requires
 line-end-requires c κs = search needs

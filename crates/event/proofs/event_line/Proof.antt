@@ -1,10 +1,10 @@
--- `card::event_line` meets its contract. The name, the pairs and the end are read one after the other; the first refusal decides, and otherwise the tables hold the line.
+-- `event::event_line` meets its contract. The name, the pairs and the end are read one after the other; the first refusal decides, and otherwise the tables hold the line.
 -- Assumes nothing.
 use borrow.Author.Needs.{needs}
 use mathlib.Core.Path.{refl}
-use Rattle.card.proofs.Events.{event-lining, events-held, event-puts, event-unended, event-read}
-use Rattle.card.proofs.event_line.Statement.{statement}
-use Rattle.card.proofs.event_line.Tie as tie
+use Rattle.event.proofs.Events.{event-lining, events-held, event-puts, event-unended, event-read}
+use Rattle.event.proofs.event_line.Statement.{statement}
+use Rattle.event.proofs.event_line.Tie as tie
 
 add-known-name : tie.Need-add-known-name
 add-known-name c = search (needs, event-lining)

@@ -3,7 +3,6 @@ use Prim.Native.Nat.{ℕ, zero, suc, _+_, _-_, _*_, _≤_, _<_}
 use mathlib.Core.Path.{_≡_, refl, sym, _∙_, ap}
 use mathlib.Core.Bool.{Bool, true, false}
 use mathlib.Core.List.{List, [], _∷_, _++_, map}
-use mathlib.Core.Option.{Option, none, some, Option·none-ne-some, Option·some-injective}
 use native.Mathlib.Omega.{arith}
 use native.Mathlib.Numerals.{add-one}
 use borrow.Author.Tests.{le-leb, lt-leb}
@@ -11,14 +10,22 @@ use lib.ListN.{length, take, drop, getD, set, replicate, length-drop, length-app
 use lib.Seq.{drop-cons, drop-drop, drop-length, drop-nil, take-length}
 use mir.Val.{Fits}
 use mir.Syntax.{w64}
-use Rattle.meaning.specs.Text.{text, same, find, later}
+use Rattle.meaning.specs.Text.{text}
 use Rattle.meaning.specs.Refusal.{LINE}
 use Rattle.meaning.specs.Reading.{Got, got, wrong, Reader, after, each, due, lineEnd, paperEnd, answered, paper}
-use Rattle.meaning.specs.Name.{Name, name, known, placed}
+use Rattle.meaning.specs.Name.{Name, known}
 use Rattle.meaning.specs.Number.{Entry, entry}
 use Rattle.meaning.specs.Sheet.{Sheet, eventNames}
 use Rattle.meaning.specs.Card as M
 use Rattle.meaning.specs.Card.{fieldEntry, Put, put, carriedBy, happening, readEvent}
+use Rattle.theory.specs.Built.{bind-built, lineEnd-built, paperEnd-built, line-fault}
+use Rattle.theory.specs.BuiltPapers.{put-built}
+use Rattle.theory.specs.Faults.{built-number}
+use Rattle.theory.specs.Shift.{shifted, built-shifts}
+use Rattle.theory.specs.Lines.{Within, built-within}
+use Rattle.theory.specs.Told.{spelled-took}
+use Rattle.theory.specs.EventText.{known-spells}
+use Rattle.text.proofs.Callers.{known-wrong, known-got, known-place, known-fits}
 use Rattle.text.specs.declared.Bytes.{Bytes}
 use Rattle.text.specs.declared.Bytes.the-variants as B
 use Rattle.text.specs.declared.Known.{Known}
@@ -30,20 +37,22 @@ use Rattle.number.specs.declared.End.the-variants as D
 use Rattle.number.specs.Answers.{coded, asEnd}
 use Rattle.tables.specs.declared.Heads.{Heads}
 use Rattle.tables.specs.Heads.{Sized, padded, headsOf}
-use Rattle.card.specs.declared.Happening.{Happening}
-use Rattle.card.specs.declared.EventRead.{EventRead}
-use Rattle.card.specs.declared.PutsRead.{PutsRead}
+use Rattle.event.specs.declared.Happening.{Happening}
+use Rattle.event.specs.declared.EventRead.{EventRead}
+use Rattle.event.specs.declared.PutsRead.{PutsRead}
 use Rattle.lines.specs.declared.ValuePiece.{ValuePiece}
 use Rattle.lines.specs.declared.ValuePiece.the-variants as VP
-use Rattle.card.specs.Answers.{valuePlaces, asHappening, asEventRead}
-use Rattle.card.specs.Parts.{knownFault, eventEnd, Rows, Puts, PutsAs, refusedEvent, takenEvent}
+use Rattle.card.specs.Answers.{valuePlaces}
+use Rattle.card.specs.Parts.{Rows}
+use Rattle.event.specs.Answers.{asHappening, asEventRead}
+use Rattle.event.specs.Parts.{knownFault, eventEnd, Puts, PutsAs, refusedEvent, takenEvent}
 use Rattle.lines.specs.Answers.{bytesFault, asValue, spaced}
-use Rattle.lines.proofs.Told.{same-length, Told, here, after-after, told-after, Bytewise, told-word, told-line}
-use Rattle.lines.proofs.Pieces.{taken-length, Took, Valued}
+use Rattle.lines.proofs.Told.{here, after-after}
+use Rattle.lines.proofs.Pieces.{Took, Valued}
 use Rattle.lines.proofs.Callers.{line-took, line-kept, put-took, put-kept}
-use Rattle.card.proofs.Faults.{sound-wrong, sounds-put}
 use Rattle.card.proofs.Rows.{column-more, map-map, map-more, nextPlace, rows-none, rows-more, place-more, before, before-none, each-wrong, each-more, each-over}
-use Rattle.card.proofs.Sheets.{length-held, events-are, carriedAt, carried-are, carried-length, carried-room, carried-field, carried-cons, field-at}
+use Rattle.card.proofs.Sheets.{length-held}
+use Rattle.event.proofs.Sheets.{events-are, carriedAt, carried-are, carried-length, carried-room, carried-field, carried-cons, field-at}
 
 -- THE END OF THE LINE
 module _ (t : List ℕ) (q : Bytes) (is : q ≡ asBytes t (lineEnd LINE 0 t)) where
@@ -65,48 +74,33 @@ module _ (t : List ℕ) (q : Bytes) (is : q ≡ asBytes t (lineEnd LINE 0 t)) wh
 
 pub ruleset ending = (end-line, end-more, end-over)
 
--- what the answer tells, on whatever line
-data Ends (t : List ℕ) : Type 0 where
-  ends : ((l : ℕ) → eventEnd l t ≡ got tt (suc l) []) → Ends t
-  behind : ((l : ℕ) → eventEnd l t ≡ wrong 2 (suc l)) → Ends t
-  unended : (k : ℕ) → ((l : ℕ) → eventEnd l t ≡ wrong k l) → Ends t
+-- what the answer tells of line 1
+end-shifts : (t : List ℕ) → eventEnd 1 t ≡ shifted 1 (eventEnd 0 t)
+unfolding eventEnd
+end-shifts t = built-shifts (bind-built (lineEnd-built line-fault) λ _. paperEnd-built) 1 t
 
-ends-as : (t : List ℕ) → Ends t
-unfolding eventEnd paperEnd
-ends-as t = go (told-line t)
-  where
-    over : (u : List ℕ) → ((l : ℕ) → eventEnd l t ≡ paperEnd (suc l) u) → Ends t
-    over [] h = Ends.ends h
-    over (x ∷ u) h = Ends.behind h
-
-    go : Told suc (Bytewise 1) (lineEnd LINE) t → Ends t
-    go (Told.keeps k e) = Ends.unended k (λ l. rw (e l))
-    go (Told.takes u n h w e) = over (drop n t) (λ l. rw (e l))
+end-within : (t : List ℕ) → Within (length t) (eventEnd 0 t)
+unfolding eventEnd
+end-within t = built-within (bind-built (lineEnd-built line-fault) λ _. paperEnd-built) (length t) 0 t (omega arith)
 
 module _ (t : List ℕ) (q : End) (is : q ≡ asEnd (eventEnd 0 t)) where
-  event-done : q ≡ D.Done → (l : ℕ) → eventEnd l t ≡ got tt (suc l) []
-  event-done e l = go (ends-as t)
+  event-done : q ≡ D.Done → (k : ℕ) × (u : List ℕ) × (eventEnd 1 t ≡ got tt k u)
+  event-done e = go (eventEnd 0 t) refl
     where
-      go : Ends t → eventEnd l t ≡ got tt (suc l) []
-      go (Ends.ends h) = h l
-      go (Ends.behind h) = let y : asEnd (eventEnd 0 t) ≡ D.Refused 2 1 = rw (h 0) in let z : _≡_ {A = ℕ} 0 1 = cc in absurd (omega arith)
-      go (Ends.unended k h) = let y : asEnd (eventEnd 0 t) ≡ D.Refused k 0 = rw (h 0) in let z : _≡_ {A = ℕ} 0 1 = cc in absurd (omega arith)
+      go : (x : Got (Unit {0})) → eventEnd 0 t ≡ x → (k : ℕ) × (u : List ℕ) × (eventEnd 1 t ≡ got tt k u)
+      go (got a k u) h = (1 + k, u, end-shifts t ∙ rw h)
+      go (wrong n k) h = let y : q ≡ D.Refused n k = is ∙ rw h in let z : _≡_ {A = ℕ} 0 1 = cc in absurd (omega arith)
 
-  event-kept : (k o : ℕ) → q ≡ D.Refused k o → (eventEnd 1 t ≡ wrong k (1 + o)) × (o ≤ 1)
-  event-kept k o e = go (ends-as t)
+  event-kept : (k o : ℕ) → q ≡ D.Refused k o → (eventEnd 1 t ≡ wrong k (1 + o)) × (o ≤ length t)
+  event-kept k o e = go (eventEnd 0 t) refl
     where
-      go : Ends t → (eventEnd 1 t ≡ wrong k (1 + o)) × (o ≤ 1)
-      go (Ends.ends h) = let y : asEnd (eventEnd 0 t) ≡ D.Done = rw (h 0) in let z : _≡_ {A = ℕ} 0 1 = cc in absurd (omega arith)
-      go (Ends.behind h) =
-          let y : asEnd (eventEnd 0 t) ≡ D.Refused 2 1 = rw (h 0) in
-          let a : k ≡ 2 = cc in
-          let b : o ≡ 1 = cc in
-          (rw (a, b) (h 1), omega arith)
-      go (Ends.unended j h) =
-          let y : asEnd (eventEnd 0 t) ≡ D.Refused j 0 = rw (h 0) in
-          let a : k ≡ j = cc in
-          let b : o ≡ 0 = cc in
-          (rw (a, b) (h 1), omega arith)
+      go : (x : Got (Unit {0})) → eventEnd 0 t ≡ x → (eventEnd 1 t ≡ wrong k (1 + o)) × (o ≤ length t)
+      go (got a i u) h = let y : q ≡ D.Done = is ∙ rw h in let z : _≡_ {A = ℕ} 0 1 = cc in absurd (omega arith)
+      go (wrong n i) h =
+          let y : q ≡ D.Refused n i = is ∙ rw h in
+          let a : n ≡ k = cc in
+          let b : i ≡ o = cc in
+          rw (← a, ← b) (end-shifts t ∙ rw h, rw h at (end-within t))
 
 -- a pair of the meaning is such a piece
 put-is : (sh : Sheet) (f l : ℕ) (t : List ℕ) → put sh f l t ≡ after (spaced (getD (sh .fields) f []) l t) (λ e l s. got (record { field = f; entry = e }) l s)
@@ -210,7 +204,7 @@ module _ (h : Heads) (sized : Sized h) (e : ℕ) (one : e < h .events) (count : 
           let w : put (headsOf h) f 1 t ≡ wrong k 1 = put-is (headsOf h) f 1 t ∙ rw (field-name, put-kept (named (getD (h .names) f 0)) t q is k o 1) in
           let u : each (put (headsOf h)) (carriedBy (headsOf h) e) 1 (drop p s) ≡ wrong k 1
           = rw (carried-are h e one) (g .same ∙ rw (← rest, next-put) (each-wrong _ _ _ 1 t k 1 (g .ps) w)) in
-          let v : k ≡ 0 → ⊥ = sound-wrong _ k 1 (sounds-put (headsOf h) f .of 1 t) w in
+          let v : k ≡ 0 → ⊥ = built-number (put-built (headsOf h) f) 1 t k 1 w in
           record { gave = record { within = omega (arith, y .1); low = omega arith; good = λ c. absurd (v (sym x ∙ c)); bad = λ _. u ∙ rw x } }
 
       module _ (v n k : ℕ) (o : q ≡ VP.Value v n k) where
@@ -262,59 +256,9 @@ module _ (h : Heads) (sized : Sized h) (e : ℕ) (one : e < h .events) (count : 
 pub ruleset putting = (puts-start, count-few, puts-done, carried-place, name-place, puts-bad, puts-room, puts-room-2, puts-more)
 
 -- THE EVENT'S NAME
-find-placed : (w : List ℕ) (ks : List Name) (i : ℕ) → find w ks ≡ some i → (i < length ks) × (length w ≡ length (getD ks i []))
-unfolding find
-find-placed w [] i e = absurd (Option·none-ne-some i e)
-find-placed w (k ∷ ks) i e = go (same w k) refl e (find w ks) refl (find-placed w ks)
-  where
-    go : (b : Bool) → same w k ≡ b → _≡_ {A = Option ℕ} (elim b [ true ↦ some 0 | false ↦ later (find w ks) ]) (some i) → (o : Option ℕ) → find w ks ≡ o
-        → ((j : ℕ) → find w ks ≡ some j → (j < length ks) × (length w ≡ length (getD ks j []))) → (i < suc (length ks)) × (length w ≡ length (getD (k ∷ ks) i []))
-    go true q e o f ih = let z : 0 ≡ i = Option·some-injective 0 i e in rw (← z) (omega arith, same-length w k q)
-    go false q e none f ih = absurd (Option·none-ne-some i (rw f at e))
-    go false q e (some j) f ih =
-        let z : suc j ≡ i = Option·some-injective (suc j) i (rw f at e) in
-        let y = ih j f in
-        rw (← z) (omega (arith, y .0), y .1)
-
-abbrev Placed : List Name → ℕ → ℕ → Type 0
-Placed ns i n = (i < length ns) × (n ≡ length (getD ns i []))
-
-told-known : (ns : List Name) (t : List ℕ) → Told here (Placed ns) (known ns) t
-unfolding known
-told-known ns t = told-after here (λ w n. n ≡ length w) (Placed ns) name (λ w. placed (find w ns)) t (told-word t) (λ w n h. go w n h (find w ns) refl)
-  where
-    go : (w : List ℕ) (n : ℕ) → n ≡ length w → (o : Option ℕ) → find w ns ≡ o → Told here (λ i m. Placed ns i (n + m)) (placed o) (drop n t)
-    go w n h none e = Told.keeps 3 (λ l. refl)
-    go w n h (some i) e = let y = find-placed w ns i e in Told.takes i 0 (y .0, omega (arith, y .1)) (omega arith) (λ l. refl)
-
--- what the answer tells
-pub record Event-at (ns : List Name) (t : List ℕ) (i n : ℕ) : Type 0 where
-  pub one : i < length ns
-  pub size : n ≡ length (getD ns i [])
-  pub within : n ≤ length t
-  pub is : (l : ℕ) → known ns l t ≡ got i l (drop n t)
-
-module _ (ns : List Name) (t : List ℕ) (p : Known) (is : p ≡ asKnown t (known ns 0 t)) where
-  known-took : (i n : ℕ) → p ≡ K.At i n → Event-at ns t i n
-  known-took i n e = go (told-known ns t)
-    where
-      go : Told here (Placed ns) (known ns) t → Event-at ns t i n
-      go (Told.takes j m h w q) =
-          let y : asKnown t (known ns 0 t) ≡ K.At j m = rw (q 0) (ap (λ c. K.At j c) (taken-length t m w)) in
-          let a : i ≡ j = cc in
-          let b : n ≡ m = cc in
-          rw (a, b) (record { one = h .0; size = h .1; within = w; is = q })
-      go (Told.keeps k q) = let y : asKnown t (known ns 0 t) ≡ K.Refused k = rw (q 0) in let z : _≡_ {A = ℕ} 0 1 = cc in absurd (omega arith)
-
-  known-kept : (k : ℕ) → p ≡ K.Refused k → (l : ℕ) → known ns l t ≡ wrong k l
-  known-kept k e l = go (told-known ns t)
-    where
-      go : Told here (Placed ns) (known ns) t → known ns l t ≡ wrong k l
-      go (Told.takes j m h w q) =
-          let y : asKnown t (known ns 0 t) ≡ K.At j (length t - length (drop m t)) = rw (q 0) in
-          let z : _≡_ {A = ℕ} 0 1 = cc in
-          absurd (omega arith)
-      go (Told.keeps j q) = let y : asKnown t (known ns 0 t) ≡ K.Refused j = rw (q 0) in let z : k ≡ j = cc in rw z (q l)
+module _ (ns : List Name) (t : List ℕ) (p : Known) (is : p ≡ asKnown t (known ns 0 t)) (i n : ℕ) (at : p ≡ K.At i n) where
+  known-size : n ≡ length (getD ns i [])
+  known-size = spelled-took (known-spells ns) 0 t i 0 n (known-fits p ns t is i n at) (known-got p ns t is i n at 0)
 
 -- THE LINE
 abbrev eventTable : Heads → List Name
@@ -341,16 +285,13 @@ event-is p e a b c d f = rw (a, b, c, d, f)
 
 module _ (h : Heads) (s : List ℕ) (k : Known) (is : k ≡ asKnown s (known (eventTable h) 0 s)) where
   module _ (e n : ℕ) (at : k ≡ K.At e n) where
-    event-at : Event-at (eventTable h) s e n
-    event-at = known-took (eventTable h) s k is e n at
-
     pub event-within : n ≤ length s
-    event-within = event-at .within
+    event-within = known-fits k (eventTable h) s is e n at
 
     pub event-one : e < h .events
     event-one = omega (
       arith,
-      event-at .one,
+      known-place k (eventTable h) s is e n at,
       length-map (take (h .fields + h .events - h .fields) (drop (h .fields) (h .names))) named,
       length-take (h .fields + h .events - h .fields) (drop (h .fields) (h .names)),
     )
@@ -358,13 +299,13 @@ module _ (h : Heads) (s : List ℕ) (k : Known) (is : k ≡ asKnown s (known (ev
   module _ (few : h .fields + h .events ≤ length (h .names)) where
     pub event-name : (i f : ℕ) (r : EventRead) → k ≡ K.Refused i → f ≡ knownFault k → r ≡ refusedEvent f 1 → r ≡ asEventRead (headsOf h) (answered 3 (happening (headsOf h) 1 s))
     unfolding happening
-    event-name i f r e z y = y ∙ rw (z, e, event-table h few, known-kept (eventTable h) s k is i e 1)
+    event-name i f r e z y = y ∙ rw (z, e, event-table h few, known-wrong k (eventTable h) s is i e 1)
 
     module _ (e n : ℕ) (at : k ≡ K.At e n) (p : PutsRead) (puts : PutsAs h s e n p) where
       event-then : happening (headsOf h) 1 s ≡ after (each (put (headsOf h)) (carriedBy (headsOf h) e) 1 (drop n s)) (λ ps l s.
           after (lineEnd LINE l s) (λ _ l s. after (paperEnd l s) (λ _ l s. got (record { event = e; puts = ps }) l s)))
       unfolding happening
-      event-then = rw (event-table h few, event-at e n at .is 1)
+      event-then = rw (event-table h few, known-got k (eventTable h) s is e n at 1)
 
       pub event-puts : (r : EventRead) → (p .number ≡ 0 → ⊥) → r ≡ refusedEvent (p .number) 1 → r ≡ asEventRead (headsOf h) (answered 3 (happening (headsOf h) 1 s))
       event-puts r i z = z ∙ rw (event-then, puts .gave .bad i)
@@ -378,7 +319,7 @@ module _ (h : Heads) (s : List ℕ) (k : Known) (is : k ≡ asKnown s (known (ev
 
         pub event-read : (r : EventRead) → q ≡ D.Done → r ≡ takenEvent e p → r ≡ asEventRead (headsOf h) (answered 3 (happening (headsOf h) 1 s))
         unfolding asHappening
-        event-read r f z = z ∙ held ∙ sym (rw (event-last, event-done u q last f 1))
+        event-read r f z = z ∙ held ∙ sym (rw (event-last, event-done u q last f .2))
           where
             ps : List Put
             ps = puts .gave .good ok .0
@@ -387,13 +328,13 @@ module _ (h : Heads) (s : List ℕ) (k : Known) (is : k ≡ asKnown s (known (ev
             told = puts .gave .good ok .1
 
             placed : n ≡ length (getD (eventNames (headsOf h .events)) e [])
-            placed = rw (event-table h few) (event-at e n at .size)
+            placed = rw (event-table h few) (known-size (eventTable h) s k is e n at)
 
             held : takenEvent e p ≡ record { number = 0; line = 0; happening = asHappening (headsOf h) (record { event = e; puts = ps }) }
             held = event-is p _ (told .counted) (told .told) (told .rows .coded) (told .rows .placed ∙ ap (λ x. padded 16 0 (valuePlaces (x + 1) (map (λ q. getD (headsOf h .fields) (q .field) []) ps) (map entryOf ps))) placed) (told .rows .sized)
 
-pub event-room : (t : List ℕ) (q : End) (i o j : ℕ) → q ≡ asEnd (eventEnd 0 t) → q ≡ D.Refused i o → j ≡ 1 + o → Fits w64 j
-event-room t q i o j is e z = omega (arith, event-kept t q is i o e .1)
+pub event-room : (s t : List ℕ) (p : ℕ) (q : End) (i o j : ℕ) → length s ≤ 512 → t ≡ drop p s → q ≡ asEnd (eventEnd 0 t) → q ≡ D.Refused i o → j ≡ 1 + o → Fits w64 j
+event-room s t p q i o j short rest is e z = omega (arith, event-kept t q is i o e .1, ap length rest, length-drop p s)
 
 pub ruleset event-lining = (event-within, event-one, events-held, event-name, event-puts, event-room, event-unended, event-read)
 

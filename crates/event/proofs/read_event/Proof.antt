@@ -1,9 +1,9 @@
--- `card::read_event` meets its contract. A long line is refused, any other is read.
+-- `event::read_event` meets its contract. A long line is refused, any other is read.
 -- Assumes nothing.
 use borrow.Author.Needs.{needs}
-use Rattle.card.proofs.Events.{event-papering}
-use Rattle.card.proofs.read_event.Statement.{statement}
-use Rattle.card.proofs.read_event.Tie as tie
+use Rattle.event.proofs.Events.{event-papering}
+use Rattle.event.proofs.read_event.Statement.{statement}
+use Rattle.event.proofs.read_event.Tie as tie
 
 event-refused-requires : tie.Need-event-refused-requires
 event-refused-requires c κs = search needs

@@ -1,12 +1,12 @@
--- `card::read_puts` meets its contract. Before pair i the tables hold the i pairs read, and what is still to be read gives the whole. The measure is the number of pairs left.
+-- `event::read_puts` meets its contract. Before pair i the tables hold the i pairs read, and what is still to be read gives the whole. The measure is the number of pairs left.
 -- Assumes nothing.
 use borrow.Author.Needs.{needs}
 use Prim.Native.Nat.{_-_, _≤_}
 use mathlib.Core.Path.{_≡_, refl}
 use lib.ListN.{getD}
-use Rattle.card.proofs.Events.{putting, PutsAt, puts-more}
-use Rattle.card.proofs.read_puts.Statement.{statement}
-use Rattle.card.proofs.read_puts.Tie as tie
+use Rattle.event.proofs.Events.{putting, PutsAt, puts-more}
+use Rattle.event.proofs.read_puts.Statement.{statement}
+use Rattle.event.proofs.read_puts.Tie as tie
 
 abbrev Inv-loop : tie.InvT-loop
 Inv-loop s event from h count at₀ fields₀ values₀ starts₀ lengths₀ i₀ at fields values starts lengths i = (i ≤ count) × (count ≤ 16) × (count ≡ getD (h .carries) event 0) × PutsAt h s event from at fields values starts lengths i
