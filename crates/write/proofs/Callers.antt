@@ -31,12 +31,13 @@ use Rattle.text.specs.declared.Found.the-variants as F
 use Rattle.text.specs.Answers.{foundIn, further}
 use Rattle.text.proofs.Callers.{found-within}
 use Rattle.tables.specs.Heads.{padded}
+use Rattle.space.specs.Answers.{isYes}
 use Rattle.card.specs.declared.Card.{Card}
 use Rattle.event.specs.declared.Happening.{Happening}
 use Rattle.card.specs.Answers.{markCode, valuePlaces, asCard}
 use Rattle.event.specs.Answers.{asHappening}
-use Rattle.write.specs.Texts.{part, shownBy, valueText, showing, isYes, nextText}
-use Rattle.write.proofs.Laws.{line-long}
+use Rattle.write.specs.Texts.{part, shownBy, valueText, showing, nextText}
+use Rattle.space.proofs.Laws.{line-long}
 
 -- ARRAYS
 

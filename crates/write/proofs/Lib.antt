@@ -1,5 +1,3 @@
--- Laws in the form in which the functions' answers need them: texts put into lent space, names, counts and single lines:
-pub mod Laws
 -- The text of a field, and the lines of a table:
 pub mod Rows
 -- The whole card:

@@ -15,9 +15,10 @@ use Rattle.text.specs.declared.Found.the-variants as F
 use Rattle.text.proofs.Laws.{shifted}
 use Rattle.card.specs.declared.Card.{Card}
 use Rattle.event.specs.declared.Happening.{Happening}
-use Rattle.write.specs.Texts.{part, isYes, shownBy, valueText}
-use Rattle.write.specs.Lines.{Wrote, markAt, linesFrom}
-use Rattle.write.proofs.Laws.{Left, left-start, left-room, left-more, left-end, left-long, line-long}
+use Rattle.write.specs.Texts.{part, shownBy, valueText}
+use Rattle.space.specs.Answers.{Wrote, isYes}
+use Rattle.write.specs.Lines.{markAt, linesFrom}
+use Rattle.space.proofs.Laws.{Left, left-start, left-room, left-more, left-end, left-long, line-long}
 
 -- THE TEXT OF A FIELD
 

@@ -1,7 +1,7 @@
 use borrow.Author.Needs.{needs}
-use Rattle.write.proofs.Laws.{marking}
-use Rattle.write.proofs.mark_len.Statement.{statement}
-use Rattle.write.proofs.mark_len.Tie as tie
+use Rattle.space.proofs.Laws.{marking}
+use Rattle.space.proofs.mark_len.Statement.{statement}
+use Rattle.space.proofs.mark_len.Tie as tie
 
 name-len-requires : tie.Need-name-len-requires
 name-len-requires c κs = search (needs, marking)

@@ -1,7 +1,7 @@
 use borrow.Author.Needs.{needs}
-use Rattle.write.proofs.Laws.{ending}
-use Rattle.write.proofs.put_end.Statement.{statement}
-use Rattle.write.proofs.put_end.Tie as tie
+use Rattle.space.proofs.Laws.{ending}
+use Rattle.space.proofs.put_end.Statement.{statement}
+use Rattle.space.proofs.put_end.Tie as tie
 
 slice-aggregate-put-text : tie.Need-slice-aggregate-put-text
 slice-aggregate-put-text c = search (needs, ending)

@@ -1,7 +1,7 @@
 use borrow.Author.Needs.{needs}
-use Rattle.write.proofs.Laws.{counting}
-use Rattle.write.proofs.put_count.Statement.{statement}
-use Rattle.write.proofs.put_count.Tie as tie
+use Rattle.space.proofs.Laws.{counting}
+use Rattle.space.proofs.put_count.Statement.{statement}
+use Rattle.space.proofs.put_count.Tie as tie
 
 cast-put-byte : tie.Need-cast-put-byte
 cast-put-byte c = search (needs, counting)

@@ -1,7 +1,7 @@
 use borrow.Author.Needs.{needs}
-use Rattle.write.proofs.Laws.{symbols}
-use Rattle.write.proofs.symbol_byte.Statement.{statement}
-use Rattle.write.proofs.symbol_byte.Tie as tie
+use Rattle.space.proofs.Laws.{symbols}
+use Rattle.space.proofs.symbol_byte.Statement.{statement}
+use Rattle.space.proofs.symbol_byte.Tie as tie
 
 returns : tie.Need-returns
 returns c = search (needs, symbols)

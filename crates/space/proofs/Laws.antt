@@ -14,8 +14,7 @@ use Rattle.meaning.specs.Text.{text}
 use Rattle.meaning.specs.Number.{decimal, writtenIn}
 use Rattle.meaning.specs.Write.{line, mark}
 use Rattle.text.specs.Packed.{byteOf, namedIn, named}
-use Rattle.write.specs.Texts.{part, isYes}
-use Rattle.write.specs.Lines.{over, Wrote}
+use Rattle.space.specs.Answers.{over, Wrote, isYes}
 
 -- A TEXT OVER A PART OF THE SPACE
 

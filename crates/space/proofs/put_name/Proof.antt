@@ -1,9 +1,9 @@
 use borrow.Author.Needs.{needs}
 use Rattle.text.specs.Packed.{named, namedIn}
-use Rattle.write.proofs.Laws.{Left}
-use Rattle.write.proofs.Laws.{naming}
-use Rattle.write.proofs.put_name.Statement.{statement}
-use Rattle.write.proofs.put_name.Tie as tie
+use Rattle.space.proofs.Laws.{Left}
+use Rattle.space.proofs.Laws.{naming}
+use Rattle.space.proofs.put_name.Statement.{statement}
+use Rattle.space.proofs.put_name.Tie as tie
 
 abbrev Inv-loop : tie.InvT-loop
 Inv-loop out₀ at name to₀ v₀ left₀ out to v left = Left at (named name) out₀ to (namedIn left v) out

@@ -3,9 +3,9 @@ use Prim.Native.Nat.{_+_, _≤_}
 use mathlib.Core.Path.{_≡_}
 use lib.ListN.{length}
 use Rattle.text.specs.Packed.{named, namedIn}
-use Rattle.write.proofs.Laws.{lengths}
-use Rattle.write.proofs.name_len.Statement.{statement}
-use Rattle.write.proofs.name_len.Tie as tie
+use Rattle.space.proofs.Laws.{lengths}
+use Rattle.space.proofs.name_len.Statement.{statement}
+use Rattle.space.proofs.name_len.Tie as tie
 
 abbrev Inv-loop : tie.InvT-loop
 Inv-loop name n₀ v₀ left₀ n v left = (n + left ≤ 13) × (n + length (namedIn left v) ≡ length (named name))

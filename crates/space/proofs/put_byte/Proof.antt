@@ -1,7 +1,7 @@
 use borrow.Author.Needs.{needs}
-use Rattle.write.proofs.Laws.{byte-put}
-use Rattle.write.proofs.put_byte.Statement.{statement}
-use Rattle.write.proofs.put_byte.Tie as tie
+use Rattle.space.proofs.Laws.{byte-put}
+use Rattle.space.proofs.put_byte.Statement.{statement}
+use Rattle.space.proofs.put_byte.Tie as tie
 
 slice-write-out : tie.Need-slice-write-out
 slice-write-out c = search (needs, byte-put)

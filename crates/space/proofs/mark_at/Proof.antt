@@ -1,7 +1,7 @@
 use borrow.Author.Needs.{needs}
-use Rattle.write.proofs.Laws.{marking}
-use Rattle.write.proofs.mark_at.Statement.{statement}
-use Rattle.write.proofs.mark_at.Tie as tie
+use Rattle.space.proofs.Laws.{marking}
+use Rattle.space.proofs.mark_at.Statement.{statement}
+use Rattle.space.proofs.mark_at.Tie as tie
 
 slice-aggregate-line-at : tie.Need-slice-aggregate-line-at
 slice-aggregate-line-at c = search (needs, marking)

@@ -1,7 +1,7 @@
 use borrow.Author.Needs.{needs}
-use Rattle.write.proofs.Laws.{lining}
-use Rattle.write.proofs.put_line.Statement.{statement}
-use Rattle.write.proofs.put_line.Tie as tie
+use Rattle.space.proofs.Laws.{lining}
+use Rattle.space.proofs.put_line.Statement.{statement}
+use Rattle.space.proofs.put_line.Tie as tie
 
 put-name-requires : tie.Need-put-name-requires
 put-name-requires c κs = search (needs, lining)

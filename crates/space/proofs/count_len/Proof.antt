@@ -1,7 +1,7 @@
 use borrow.Author.Needs.{needs}
-use Rattle.write.proofs.Laws.{counting}
-use Rattle.write.proofs.count_len.Statement.{statement}
-use Rattle.write.proofs.count_len.Tie as tie
+use Rattle.space.proofs.Laws.{counting}
+use Rattle.space.proofs.count_len.Statement.{statement}
+use Rattle.space.proofs.count_len.Tie as tie
 
 returns : tie.Need-returns
 returns c = search (needs, counting)

@@ -1,7 +1,7 @@
 use borrow.Author.Needs.{needs}
-use Rattle.write.proofs.Laws.{casing}
-use Rattle.write.proofs.put_case.Statement.{statement}
-use Rattle.write.proofs.put_case.Tie as tie
+use Rattle.space.proofs.Laws.{casing}
+use Rattle.space.proofs.put_case.Statement.{statement}
+use Rattle.space.proofs.put_case.Tie as tie
 
 slice-aggregate-put-text : tie.Need-slice-aggregate-put-text
 slice-aggregate-put-text c = search (needs, casing)

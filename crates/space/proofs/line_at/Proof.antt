@@ -1,7 +1,7 @@
 use borrow.Author.Needs.{needs}
-use Rattle.write.proofs.Laws.{part-back}
-use Rattle.write.proofs.line_at.Statement.{statement}
-use Rattle.write.proofs.line_at.Tie as tie
+use Rattle.space.proofs.Laws.{part-back}
+use Rattle.space.proofs.line_at.Statement.{statement}
+use Rattle.space.proofs.line_at.Tie as tie
 
 sub-put-line : tie.Need-sub-put-line
 sub-put-line c = search (needs, part-back)

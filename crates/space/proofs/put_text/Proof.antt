@@ -1,10 +1,10 @@
 use borrow.Author.Needs.{needs}
 use Prim.Native.Nat.{_-_}
 use lib.ListN.{drop, length}
-use Rattle.write.proofs.Laws.{Left}
-use Rattle.write.proofs.Laws.{texting}
-use Rattle.write.proofs.put_text.Statement.{statement}
-use Rattle.write.proofs.put_text.Tie as tie
+use Rattle.space.proofs.Laws.{Left}
+use Rattle.space.proofs.Laws.{texting}
+use Rattle.space.proofs.put_text.Statement.{statement}
+use Rattle.space.proofs.put_text.Tie as tie
 
 abbrev Inv-loop : tie.InvT-loop
 Inv-loop out₀ at w to₀ i₀ out to i = Left at w out₀ to (drop i w) out
