@@ -2,6 +2,5 @@
 pub mod Kept
 pub mod Listed
 pub mod Steps
-pub mod Lists
 pub mod Items
 pub mod Callers

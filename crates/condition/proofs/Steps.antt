@@ -14,7 +14,6 @@ use Rattle.meaning.specs.Text.{text, begins}
 use Rattle.meaning.specs.Reading.{Got, got, wrong, due}
 use Rattle.meaning.specs.Condition.{Leaf, Item, leavesI}
 use Rattle.meaning.specs.ReadCondition.{readLeaf}
-use Rattle.theory.specs.Told.{Any}
 use Rattle.text.specs.Packed.{named}
 use Rattle.text.specs.Answers.{asBytes}
 use Rattle.text.specs.declared.Bytes.{Bytes}
@@ -26,7 +25,7 @@ use Rattle.leaf.specs.declared.LeafRead.the-variants as L
 use Rattle.leaf.specs.Answers.{asLeaf}
 use Rattle.leaf.proofs.Callers.{Leafed, leaf-wrong, leaf-got}
 use Rattle.condition.specs.Answers.{Ready}
-use Rattle.condition.specs.Parts.{leafItem, Gives, Within, further, closing, closedBy}
+use Rattle.condition.specs.Parts.{leafItems, Gives, Within, further, closing, closedBy}
 use Rattle.condition.specs.declared.Place.{Place}
 use Rattle.condition.specs.declared.CondRead.{CondRead}
 use Rattle.condition.specs.declared.CondRead.the-variants.{At, Refused}
@@ -82,9 +81,9 @@ pub ruleset closes = (group-fits, group-open, group-good, group-last)
 
 -- a leaf's word
 module _ (neg : Bool) (st fd : List ℕ) (leaves top : ℕ) (s was : List ℕ) (r : LeafRead) (is : r ≡ asLeaf neg s (readLeaf (map named st) (map named fd) leaves 0 s)) where
-  pub leaf-refused : (k : ℕ) → r ≡ L.Refused k → Gives (wordsI neg) leavesI s top leaves (leafItem (map named st) (map named fd) leaves 0 s) (Refused k) was was
-  leaf-refused k told =
-      gives-refused Any (wordsI neg) leavesI (leafItem (map named st) (map named fd) leaves) s top leaves was was k (rw (leaf-wrong neg (map named st) (map named fd) leaves s r is k told 0)) refl
+  pub leaf-refused : (k : ℕ) → r ≡ L.Refused k → Gives (leafItems (map named st) (map named fd) neg) s top leaves (Refused k) was was
+  unfolding leafItems
+  leaf-refused k told = gives-refused (leafItems (map named st) (map named fd) neg) s top leaves was was k (rw (leaf-wrong neg (map named st) (map named fd) leaves s r is k told 0)) refl
 
   module _ (w n : ℕ) (told : r ≡ L.Word w n) where
     leafed : Leafed neg (map named st) (map named fd) leaves s w n
@@ -93,11 +92,10 @@ module _ (neg : Bool) (st fd : List ℕ) (leaves top : ℕ) (s was : List ℕ) (
     pub leaf-place : Ready st fd was top leaves → top < length was
     leaf-place p = omega (arith, leafed .few, p .few-words, p .room)
 
-    pub leaf-stored : (t l : ℕ) → t ≡ top + 1 → l ≡ leaves + 1
-        → Gives (wordsI neg) leavesI s top leaves (leafItem (map named st) (map named fd) leaves 0 s) (At (record { bytes = n; top = t; leaves = l })) was (set was top w)
-    unfolding wordsI leavesI
+    pub leaf-stored : (t l : ℕ) → t ≡ top + 1 → l ≡ leaves + 1 → Gives (leafItems (map named st) (map named fd) neg) s top leaves (At (record { bytes = n; top = t; leaves = l })) was (set was top w)
+    unfolding leafItems wordsI leavesI
     leaf-stored t l et el =
-        gives-found Any (wordsI neg) leavesI (leafItem (map named st) (map named fd) leaves) s top leaves was (set was top w) (Item.leaf (leafed .value)) n (leafed .within) (rw (leafed .reads 0))
+        gives-found (leafItems (map named st) (map named fd) neg) s top leaves was (set was top w) (Item.leaf (leafed .value)) n (leafed .within) (rw (leafed .reads 0))
         (record { bytes = n; top = t; leaves = l }) refl et el (ap (λ (a : ℕ). set was top a) (leafed .word))
 
 pub ruleset storing = (leaf-refused, leaf-place, leaf-stored)

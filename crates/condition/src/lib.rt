@@ -1,17 +1,15 @@
 // Reading a condition into its flat form: words in postfix order in a lent array.
 ghost use mathlib.Core.Path.{_≡_};
-ghost use mathlib.Core.Bool.{false};
 ghost use mathlib.Core.List.{_++_, map};
 ghost use Prim.Native.Nat.{_+_, _-_, _≤_, _<_};
 ghost use lib.ListN.{length, take, drop, replicate};
 ghost use lib.Seq.{sets};
 ghost use Rattle.meaning.specs.Text.{text, begins};
-ghost use Rattle.meaning.specs.Condition.{leavesC, leavesA, leavesI};
-ghost use Rattle.meaning.specs.ReadCondition.{readAnd, readCond, readItem, condition};
+ghost use Rattle.meaning.specs.ReadCondition.{condition};
 ghost use Rattle.text.specs.Packed.{named};
-ghost use Rattle.verdict.specs.Flat.{bit, join, wordsC, wordsA, wordsI};
+ghost use Rattle.verdict.specs.Flat.{bit, join};
 ghost use Rattle.condition.specs.Answers.{Ready, asCondition, stored};
-ghost use Rattle.condition.specs.Parts.{leafItem, Gives, Within, further, closedBy};
+ghost use Rattle.condition.specs.Parts.{leafItems, items, andLists, conditions, Gives, Within, further, closedBy};
 use leaf::LeafRead;
 use text::Bytes;
 
@@ -38,7 +36,7 @@ fn leaf_item(
     neg: bool,
 ) -> CondRead
     requires { ⌜ Ready (now statuses) (now fields) (now words) top leaves ⌝ }
-    ensures { λ r. ⌜ Gives (wordsI neg) leavesI (now (s .entry)) top leaves (leafItem (map named (now (statuses .entry))) (map named (now (fields .entry))) leaves 0 (now (s .entry))) r (now (words .entry)) (now (words .exit)) ⌝ }
+    ensures { λ r. ⌜ Gives (leafItems (map named (now (statuses .entry))) (map named (now (fields .entry))) neg) (now (s .entry)) top leaves r (now (words .entry)) (now (words .exit)) ⌝ }
 {
     let r = leaf::read_leaf(s, statuses, fields, leaves, neg);
     match r {
@@ -126,7 +124,7 @@ fn condition(
     neg: bool,
 ) -> CondRead
     requires { ⌜ Ready (now statuses) (now fields) (now words) top leaves ⌝ }
-    ensures { λ r. ⌜ Gives (wordsC neg false) leavesC (now (s .entry)) top leaves (readCond (readItem (map named (now (statuses .entry))) (map named (now (fields .entry))) nest) 513 leaves 0 (now (s .entry))) r (now (words .entry)) (now (words .exit)) ⌝ }
+    ensures { λ r. ⌜ Gives (conditions (map named (now (statuses .entry))) (map named (now (fields .entry))) neg nest) (now (s .entry)) top leaves r (now (words .entry)) (now (words .exit)) ⌝ }
 {
     let mut at = 0;
     let mut next = top;
@@ -165,7 +163,7 @@ fn and_list(
     neg: bool,
 ) -> CondRead
     requires { ⌜ Ready (now statuses) (now fields) (now words) top leaves ⌝ }
-    ensures { λ r. ⌜ Gives (wordsA neg false) leavesA (now (s .entry)) top leaves (readAnd (readItem (map named (now (statuses .entry))) (map named (now (fields .entry))) nest) 513 leaves 0 (now (s .entry))) r (now (words .entry)) (now (words .exit)) ⌝ }
+    ensures { λ r. ⌜ Gives (andLists (map named (now (statuses .entry))) (map named (now (fields .entry))) neg nest) (now (s .entry)) top leaves r (now (words .entry)) (now (words .exit)) ⌝ }
 {
     let mut at = 0;
     let mut next = top;
@@ -204,7 +202,7 @@ fn item(
     neg: bool,
 ) -> CondRead
     requires { ⌜ Ready (now statuses) (now fields) (now words) top leaves ⌝ }
-    ensures { λ r. ⌜ Gives (wordsI neg) leavesI (now (s .entry)) top leaves (readItem (map named (now (statuses .entry))) (map named (now (fields .entry))) nest leaves 0 (now (s .entry))) r (now (words .entry)) (now (words .exit)) ⌝ }
+    ensures { λ r. ⌜ Gives (items (map named (now (statuses .entry))) (map named (now (fields .entry))) neg nest) (now (s .entry)) top leaves r (now (words .entry)) (now (words .exit)) ⌝ }
 {
     if s.len() == 0 {
         return CondRead::Refused(2);

@@ -107,6 +107,10 @@ told-ensured {A} {P} {r} h g s = go (inline-told h s)
     go (Told.found a n u m e) = Told.found a n (g .gives 0 s .of a 0 (drop n s) (e 0)) m e
     go (Told.faulty k e) = Told.faulty k e
 
+pub told-weaker : {A : Type 0} {P Q : A → Type 0} {r : Reader A} {s : List ℕ} → ((a : A) → P a → Q a) → Told P r s → Told Q r s
+told-weaker h (Told.found a n p m e) = Told.found a n (h a p) m e
+told-weaker h (Told.faulty k e) = Told.faulty k e
+
 -- as many bytes as the text of the value has
 pub spelled-took : {A : Type 0} {r : Reader A} {w : A → List ℕ} → Spells [] r w → (l : ℕ) (s : List ℕ) (a : A) (k n : ℕ) → n ≤ length s → r l s ≡ got a k (drop n s) → n ≡ length (w a)
 spelled-took {w = w} h l s a k n m e = let z = ap length (h .reads l s .of a k (drop n s) e) in omega (arith, length-append (w a) (drop n s), length-drop n s)
