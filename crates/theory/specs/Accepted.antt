@@ -175,7 +175,7 @@ module _ (sh : Sheet) (well : Well sh) where
 -- A STEP'S RESULT
 
 -- as many entries as before
-put-length : (ps : List Put) (es : List Entry) → length (putIn ps es) ≡ length es
+pub put-length : (ps : List Put) (es : List Entry) → length (putIn ps es) ≡ length es
 unfolding putIn
 put-length [] es = refl
 put-length (p ∷ ps) es = put-length ps (set es (p .field) (p .entry)) ∙ length-set es (p .field) (p .entry)

@@ -61,7 +61,7 @@ known-spells ns = bind-spells name-spells λ w. go w (find w ns) refl
     go w (some i) e = give-spells (find-name w ns i e)
 
 -- a field with its value
-field-spells : (n : Name) → Spells [] (fieldEntry n) (λ e. n ++ text "=" ++ e .shown)
+pub field-spells : (n : Name) → Spells [] (fieldEntry n) (λ e. n ++ text "=" ++ e .shown)
 unfolding fieldEntry
 field-spells n =
     bind-spells (dueName-spells n) λ x.
