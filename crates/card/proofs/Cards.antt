@@ -17,6 +17,7 @@ use Rattle.meaning.specs.Number.{Entry, endLine}
 use Rattle.meaning.specs.Sheet.{Sheet, statuses, statusNames}
 use Rattle.meaning.specs.Card as M
 use Rattle.meaning.specs.Card.{fieldEntry, statusMark, ended, card, orphan, sheltered, readCard}
+use Rattle.theory.specs.Readers.{each-length}
 use Rattle.theory.specs.BuiltPapers.{card-built}
 use Rattle.theory.specs.Faults.{built-number}
 use Rattle.text.specs.declared.Bytes.{Bytes}
@@ -41,7 +42,7 @@ use Rattle.lines.specs.Answers.{bytesFault, caseLine}
 use Rattle.lines.proofs.Told.{after-after}
 use Rattle.lines.proofs.Pieces.{Took}
 use Rattle.lines.proofs.Callers.{case-took, case-kept}
-use Rattle.card.proofs.Rows.{names-length, each-length}
+use Rattle.card.proofs.Rows.{names-length}
 use Rattle.card.proofs.Marks.{orphan-same, marks-side, orphan-below}
 use Rattle.card.proofs.Sheets.{length-held, model-is, fields-are, statuses-are, stages-length}
 
@@ -137,8 +138,8 @@ module _ (h : Heads) (s : List ℕ) (k : Bytes) (case : k ≡ asBytes s (caseLin
             unfolding es ss
             counted = omega (
               arith,
-              each-length _ _ _ _ _ _ _ (fields .gave .good ok .2),
-              each-length _ _ _ _ _ _ _ (marks .gave .good ok-2 .2),
+              each-length _ _ .gives _ _ .of _ _ _ (fields .gave .good ok .2),
+              each-length _ _ .gives _ _ .of _ _ _ (marks .gave .good ok-2 .2),
               names-length (h .names) (h .fields) (fields .few),
               names-length (drop (h .fields + h .events) (h .names)) (h .stages + h .miles) fewer,
             )

@@ -31,7 +31,7 @@ use Rattle.card.specs.Parts.{MarksAs, sideOf, asOrphan}
 use Rattle.lines.specs.Answers.{asMark}
 use Rattle.lines.proofs.Pieces.{Marked}
 use Rattle.lines.proofs.Callers.{status-took, status-kept}
-use Rattle.card.proofs.Rows.{column-more, names-cons, names-length, before, before-none, each-wrong, each-more, each-over}
+use Rattle.card.proofs.Rows.{padded-at, column-more, names-cons, names-length, before, before-none, each-wrong, each-more, each-over}
 
 -- THE LINES
 abbrev statusLines : List Name → ℕ → List ℕ → Got (List Bool)
@@ -183,16 +183,6 @@ orphan-same a b h x (s ∷ ss) = go (s .under) (orphan-same a b h (suc x) ss)
 code-yes : (b : Bool) → eqb (markCode b) 2 ≡ b
 code-yes true = refl
 code-yes false = refl
-
-padded-at : (n : ℕ) (xs : List ℕ) (x : ℕ) → getD (xs ++ replicate n 0) x 0 ≡ getD xs x 0
-padded-at n [] x = zeros n x
-  where
-    zeros : (n x : ℕ) → _≡_ {A = ℕ} (getD (replicate n 0) x 0) 0
-    zeros zero x = refl
-    zeros (suc n) zero = refl
-    zeros (suc n) (suc x) = zeros n x
-padded-at n (y ∷ xs) zero = refl
-padded-at n (y ∷ xs) (suc x) = padded-at n xs x
 
 pub marks-side : (marks : List ℕ) (bs : List Bool) → marks ≡ padded 32 0 (map markCode bs) → (x : ℕ) → is (sideOf marks) x ≡ is bs x
 unfolding padded

@@ -12,6 +12,7 @@ use Rattle.meaning.specs.Number.{Entry}
 use Rattle.text.specs.Packed.{named, namedIn}
 use Rattle.number.specs.Answers.{coded}
 use Rattle.tables.specs.Heads.{padded}
+use Rattle.tables.proofs.Padded.{padded-set}
 use Rattle.card.specs.Answers.{valuePlaces}
 use Rattle.card.specs.Parts.{Rows}
 
@@ -31,10 +32,18 @@ map-map f g [] = refl
 map-map f g (x ∷ xs) = ap (λ r. g (f x) ∷ r) (map-map f g xs)
 
 pub padded-more : {A : Type 0} (n : ℕ) (d : A) (xs : List A) (a : A) (i : ℕ) → length xs ≡ i → i < n → set (padded n d xs) i a ≡ padded n d (xs ++ (a ∷ []))
-unfolding padded
-padded-more n d xs a i e h =
-    let y : n - length xs ≡ suc (n - length (xs ++ (a ∷ []))) = simp length-append (omega arith) in
-    rw y (set-at xs d _ a i e ∙ sym (append-snoc xs a _))
+padded-more n d xs a i e h = rw (← e) (padded-set n d xs a (omega arith))
+
+-- what stands behind the list is 0, as if nothing stood there
+pub padded-at : (n : ℕ) (xs : List ℕ) (x : ℕ) → getD (xs ++ replicate n 0) x 0 ≡ getD xs x 0
+padded-at n [] x = zeros n x
+  where
+    zeros : (n x : ℕ) → _≡_ {A = ℕ} (getD (replicate n 0) x 0) 0
+    zeros zero x = refl
+    zeros (suc n) zero = refl
+    zeros (suc n) (suc x) = zeros n x
+padded-at n (y ∷ xs) zero = refl
+padded-at n (y ∷ xs) (suc x) = padded-at n xs x
 
 -- a column of a table, whatever it tells of a row
 pub column-more : {A : Type 0} (f : A → ℕ) (n : ℕ) (xs : List ℕ) (rows : List A) (a : A) (i v : ℕ) → xs ≡ padded n 0 (map f rows) → length rows ≡ i → i < n → v ≡ f a
@@ -68,7 +77,7 @@ module _ (e : Entry) where
   places-more p (n ∷ ns) [] h = ap (λ r. (p + length n + 1) ∷ r) (places-none _ ns)
   places-more p (n ∷ ns) (x ∷ es) h = ap (λ r. (p + length n + 1) ∷ r) (places-more (p + length n + 1 + length (x .shown) + 1) ns es (omega arith))
 
-places-length : (p : ℕ) (ns : List Name) (es : List Entry) → length es ≤ length ns → length (valuePlaces p ns es) ≡ length es
+pub places-length : (p : ℕ) (ns : List Name) (es : List Entry) → length es ≤ length ns → length (valuePlaces p ns es) ≡ length es
 unfolding valuePlaces
 places-length p [] [] h = refl
 places-length p [] (e ∷ es) h = absurd (omega arith)
@@ -137,18 +146,3 @@ module _ {A B : Type 0} (r : B → Reader A) (b : B) (bs : List B) (l : ℕ) (t 
 pub each-over : {A B : Type 0} (r : B → Reader A) (l : ℕ) (t : List ℕ) (xs : List A) → before xs (each r [] l t) ≡ got xs l t
 unfolding each
 each-over r l t xs = ap (λ y. got y l t) (append-nil xs)
-
--- as many were read as there are
-pub each-length : {A B : Type 0} (r : B → Reader A) (bs : List B) (l m : ℕ) (t u : List ℕ) (xs : List A) → each r bs l t ≡ got xs m u → length xs ≡ length bs
-unfolding each
-each-length r [] l m t u xs e = let z : xs ≡ [] = cc in rw z
-each-length {A} r (b ∷ bs) l m t u xs e = first (r b l t) e (each-length r bs)
-  where
-    next : (a : A) (g : Got (List A)) → after g (λ ys l s. got (a ∷ ys) l s) ≡ got xs m u → ((ys : List A) (m : ℕ) (u : List ℕ) → g ≡ got ys m u → length ys ≡ length bs) → length xs ≡ suc (length bs)
-    next a (got ys l s) e ih = let z : xs ≡ a ∷ ys = cc in rw z (ap suc (ih ys l s refl))
-    next a (wrong k l) e ih = let z : _≡_ {A = ℕ} 0 1 = cc in absurd (omega arith)
-
-    first : (g : Got A) → after g (λ a l s. after (each r bs l s) (λ ys l s. got (a ∷ ys) l s)) ≡ got xs m u
-        → ((l m : ℕ) (t u : List ℕ) (ys : List A) → each r bs l t ≡ got ys m u → length ys ≡ length bs) → length xs ≡ suc (length bs)
-    first (got a l s) e ih = next a (each r bs l s) e (λ ys m u q. ih l m s u ys q)
-    first (wrong k l) e ih = let z : _≡_ {A = ℕ} 0 1 = cc in absurd (omega arith)

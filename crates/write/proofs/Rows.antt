@@ -4,15 +4,14 @@ use mathlib.Core.List.{List, [], _∷_, _++_}
 use Prim.Native.Nat.{ℕ, suc, _+_, _-_, _*_, _<_, _≤_, min}
 use native.Mathlib.Omega.{arith}
 use native.Mathlib.Numerals.{add-one}
-use borrow.Author.Tests.{eq-eqb, ne-eqb}
 use lib.ListN.{length, drop, take, getD, length-drop, length-append, length-take, drop-of-length-le, List·getD-eq-default}
 use lib.Seq.{drop-cons, take-all, take-nil, getD-take, getD-drop}
 use Rattle.meaning.specs.Write.{line, mark}
 use Rattle.text.specs.Packed.{named}
-use Rattle.text.specs.Answers.{foundIn, further}
+use Rattle.text.specs.Answers.{foundIn}
 use Rattle.text.specs.declared.Found.{Found}
 use Rattle.text.specs.declared.Found.the-variants as F
-use Rattle.text.proofs.Laws.{shifted}
+use Rattle.text.proofs.Laws.{shifted, found-here, found-later, shifted-suc}
 use Rattle.card.specs.declared.Card.{Card}
 use Rattle.event.specs.declared.Happening.{Happening}
 use Rattle.write.specs.Texts.{part, shownBy, valueText}
@@ -64,19 +63,6 @@ value-short event card e c f v y h g = rw y (go (foundIn f (take (e .count) (e .
     go F.Nothing = omega (arith, length-take (getD (c .lengths) f 0) (drop (getD (c .starts) f 0) card), length-drop (getD (c .starts) f 0) card)
 
 -- the search for a field at the cursor i
-found-here : (w v : ℕ) (vs : List ℕ) → v ≡ w → foundIn w (v ∷ vs) ≡ F.At 0
-unfolding foundIn
-found-here w v vs e = rw (eq-eqb v w e, foundIn)
-
-found-later : (w v : ℕ) (vs : List ℕ) → (v ≡ w → ⊥) → foundIn w (v ∷ vs) ≡ further (foundIn w vs)
-unfolding foundIn
-found-later w v vs e = rw (ne-eqb v w e, foundIn)
-
-shifted-suc : (k : ℕ) (f : Found) → shifted k (further f) ≡ shifted (k + 1) f
-unfolding shifted
-shifted-suc k (F.At i) = ap (λ n. F.At n) (omega arith)
-shifted-suc k F.Nothing = refl
-
 pub carried-start : (f : Found) → f ≡ shifted 0 f
 unfolding shifted
 carried-start (F.At i) = ap (λ n. F.At n) (omega arith)
@@ -104,7 +90,7 @@ module _ (w n : ℕ) (l : List ℕ) (i : ℕ) (v : foundIn w (take n l) ≡ shif
     carried-here e = sym (v ∙ rw (carried-left, found-here w _ _ e) (ap (λ n. F.At n) (omega arith)))
 
     pub carried-more : (getD l i 0 ≡ w → ⊥) → (j : ℕ) → j ≡ i + 1 → foundIn w (take n l) ≡ shifted j (foundIn w (drop j (take n l)))
-    carried-more e j z = rw z (v ∙ rw (carried-left, found-later w _ _ e) (shifted-suc i _))
+    carried-more e j z = rw z (v ∙ rw (carried-left, found-later w _ _ e) (rw add-one (shifted-suc i _)))
 
 pub ruleset carrying = (carried-start, carried-over, carried-none, carried-here, carried-more)
 

@@ -16,7 +16,7 @@ use Rattle.tables.specs.declared.Heads.{Heads}
 use Rattle.tables.specs.Heads.{headsOf, namesAt, Sized}
 use Rattle.card.specs.declared.Card.{Card}
 use Rattle.card.proofs.Rows.{names-length}
-use Rattle.card.proofs.Sheets.{model-is, fields-are, statuses-are}
+use Rattle.card.proofs.Sheets.{length-held, model-is, fields-are, statuses-are}
 use Rattle.event.specs.declared.Happening.{Happening}
 use Rattle.write.specs.declared.Written.{Written}
 use Rattle.write.specs.declared.Written.the-variants.{Bytes, Room}
@@ -167,9 +167,6 @@ pub ruleset carding = (card-case, card-fields, card-marks, card-end, card-done, 
 
 -- THE LENT SPACE
 
-pub array-long : {B : Type 0} (f : ℕ → B) (xs : List ℕ) → length (map f xs) ≡ 64 → length xs ≡ 64
-array-long f xs e = sym (length-map xs f) ∙ e
-
 -- w is the text of the next card, n its length
 module _ (w : List ℕ) (n : ℕ) (is : n ≡ length w) (o : List ℕ) where
   pub room-none : length o < n → Room ≡ asWritten o w
@@ -193,4 +190,4 @@ module _ (w : List ℕ) (n : ℕ) (is : n ≡ length w) (o : List ℕ) where
   pub room-fits : n ≤ length o → length w ≤ length o
   room-fits g = omega arith
 
-pub ruleset rooming = (array-long, room-none, room-kept, room-some, room-filled, room-fits)
+pub ruleset rooming = (length-held, room-none, room-kept, room-some, room-filled, room-fits)
