@@ -18,6 +18,7 @@ use Rattle.meaning.specs.Sheet.{Sheet, statuses, statusNames}
 use Rattle.meaning.specs.Card as M
 use Rattle.meaning.specs.Card.{fieldEntry, statusMark, ended, card, orphan, sheltered, readCard}
 use Rattle.theory.specs.Readers.{each-length}
+use Rattle.theory.specs.Shelter.{orphan-same, orphan-below}
 use Rattle.theory.specs.BuiltPapers.{card-built}
 use Rattle.theory.specs.Faults.{built-number}
 use Rattle.text.specs.declared.Bytes.{Bytes}
@@ -43,7 +44,7 @@ use Rattle.lines.proofs.Told.{after-after}
 use Rattle.lines.proofs.Pieces.{Took}
 use Rattle.lines.proofs.Callers.{case-took, case-kept}
 use Rattle.card.proofs.Rows.{names-length}
-use Rattle.card.proofs.Marks.{orphan-same, marks-side, orphan-below}
+use Rattle.card.proofs.Marks.{marks-side}
 use Rattle.card.proofs.Sheets.{length-held, model-is, fields-are, statuses-are, stages-length}
 
 -- what stands behind the first line, behind the fields, behind the statuses

@@ -1,7 +1,7 @@
 -- Tables with one row more, and a reader for each member of a list: what is still to be read gives the whole.
 use Prim.Native.Nat.{ℕ, zero, suc, _+_, _-_, _≤_, _<_}
 use mathlib.Core.Path.{_≡_, refl, sym, _∙_, ap}
-use mathlib.Core.List.{List, [], _∷_, _++_, map, append-nil}
+use mathlib.Core.List.{List, [], _∷_, _++_, map, map-append, append-nil}
 use native.Mathlib.Omega.{arith}
 use native.Mathlib.Numerals.{add-one}
 use lib.ListN.{length, take, drop, getD, set, replicate, length-map, length-append, List·getD-map}
@@ -17,19 +17,10 @@ use Rattle.card.specs.Answers.{valuePlaces}
 use Rattle.card.specs.Parts.{Rows}
 
 -- TABLES
-module _ {A B : Type 0} (f : A → B) where
-  pub map-more : (xs : List A) (a : A) → map f (xs ++ (a ∷ [])) ≡ map f xs ++ (f a ∷ [])
-  map-more [] a = refl
-  map-more (x ∷ xs) a = ap (λ r. f x ∷ r) (map-more xs a)
-
-  pub map-drop : (i : ℕ) (xs : List A) → drop i (map f xs) ≡ map f (drop i xs)
-  map-drop zero xs = refl
-  map-drop (suc i) [] = refl
-  map-drop (suc i) (x ∷ xs) = map-drop i xs
-
-pub map-map : {A B C : Type 0} (f : A → B) (g : B → C) (xs : List A) → map g (map f xs) ≡ map (λ x. g (f x)) xs
-map-map f g [] = refl
-map-map f g (x ∷ xs) = ap (λ r. g (f x) ∷ r) (map-map f g xs)
+map-drop : {A B : Type 0} (f : A → B) (i : ℕ) (xs : List A) → drop i (map f xs) ≡ map f (drop i xs)
+map-drop f zero xs = refl
+map-drop f (suc i) [] = refl
+map-drop f (suc i) (x ∷ xs) = map-drop f i xs
 
 pub padded-more : {A : Type 0} (n : ℕ) (d : A) (xs : List A) (a : A) (i : ℕ) → length xs ≡ i → i < n → set (padded n d xs) i a ≡ padded n d (xs ++ (a ∷ []))
 padded-more n d xs a i e h = rw (← e) (padded-set n d xs a (omega arith))
@@ -49,7 +40,7 @@ padded-at n (y ∷ xs) (suc x) = padded-at n xs x
 pub column-more : {A : Type 0} (f : A → ℕ) (n : ℕ) (xs : List ℕ) (rows : List A) (a : A) (i v : ℕ) → xs ≡ padded n 0 (map f rows) → length rows ≡ i → i < n → v ≡ f a
     → set xs i v ≡ padded n 0 (map f (rows ++ (a ∷ [])))
 column-more f n xs rows a i v held many room e =
-    rw (held, e, map-more f rows a) (padded-more n 0 (map f rows) (f a) i (length-map rows f ∙ many) room)
+    rw (held, e, map-append f rows (a ∷ [])) (padded-more n 0 (map f rows) (f a) i (length-map rows f ∙ many) room)
 
 -- where the next name stands
 unfoldable pub nextPlace : ℕ → List Name → List Entry → ℕ

@@ -2,7 +2,7 @@
 use Prim.Native.Nat.{ℕ, zero, suc, _+_, _-_, _*_, _≤_, _<_}
 use mathlib.Core.Path.{_≡_, refl, sym, _∙_, ap}
 use mathlib.Core.Bool.{Bool, true, false}
-use mathlib.Core.List.{List, [], _∷_, _++_, map}
+use mathlib.Core.List.{List, [], _∷_, _++_, map, map-append, map-map}
 use native.Mathlib.Omega.{arith}
 use native.Mathlib.Numerals.{add-one}
 use borrow.Author.Tests.{le-leb, lt-leb}
@@ -50,7 +50,7 @@ use Rattle.lines.specs.Answers.{bytesFault, asValue, spaced}
 use Rattle.lines.proofs.Told.{here, after-after}
 use Rattle.lines.proofs.Pieces.{Took, Valued}
 use Rattle.lines.proofs.Callers.{line-took, line-kept, put-took, put-kept}
-use Rattle.card.proofs.Rows.{column-more, map-map, map-more, nextPlace, rows-none, rows-more, place-more, before, before-none, each-wrong, each-more, each-over}
+use Rattle.card.proofs.Rows.{column-more, nextPlace, rows-none, rows-more, place-more, before, before-none, each-wrong, each-more, each-over}
 use Rattle.card.proofs.Sheets.{length-held}
 use Rattle.event.proofs.Sheets.{events-are, carriedAt, carried-are, carried-length, carried-room, carried-field, carried-cons, field-at}
 
@@ -172,7 +172,7 @@ module _ (h : Heads) (sized : Sized h) (e : ℕ) (one : e < h .events) (count : 
       = g .same ∙ rw (z, drop-length (carriedAt h e)) (each-over _ 1 (drop at s) (g .ps)) in
       let x : map (λ f. getD (headsOf h .fields) f []) (map fieldOf (g .ps)) ≡ carriedNames h e = rw (g .kept, z, take-length (carriedAt h e)) in
       let w : map (λ (q : Put). getD (headsOf h .fields) (q .field) []) (g .ps) ≡ carriedNames h e
-      = sym (map-map fieldOf (λ f. getD (headsOf h .fields) f []) (g .ps)) ∙ x in
+      = sym (map-map (λ f. getD (headsOf h .fields) f []) fieldOf (g .ps)) ∙ x in
       record {
         gave = record {
           within = g .within;
@@ -245,9 +245,9 @@ module _ (h : Heads) (sized : Sized h) (e : ℕ) (one : e < h .events) (count : 
               whole = g .whole;
               few = omega arith;
               told = column-more fieldOf 16 fields (g .ps) a i b (g .told) (g .many) (omega arith) (same-field ∙ sym carried);
-              kept = rw (map-more fieldOf (g .ps) a, g .kept, y, add-one i) (sym (take-first f (drop (i + 1) (carriedAt h e)) (carriedAt h e) i next-put));
-              rows = rw (map-more entryOf (g .ps) a) r;
-              place = rw (map-more entryOf (g .ps) a)
+              kept = rw (map-append fieldOf (g .ps) (a ∷ []), g .kept, y, add-one i) (sym (take-first f (drop (i + 1) (carriedAt h e)) (carriedAt h e) i next-put));
+              rows = rw (map-append entryOf (g .ps) (a ∷ [])) r;
+              place = rw (map-append entryOf (g .ps) (a ∷ []))
                   (place-more (p + 1) ns values starts lengths en i (g .rows) l (omega arith) (omega arith) (value .entry) v start k (value .value) (value .size) d (at′ + 1) (omega arith));
               within = omega (arith, fits);
               same = g .same ∙ ap (before (g .ps)) z ∙ each-more _ f (drop (i + 1) (carriedAt h e)) 1 t a 1 (drop (n + k) t) (g .ps) w ∙ rw (u, y);

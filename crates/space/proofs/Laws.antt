@@ -13,6 +13,7 @@ use lib.Seq.{drop-cons, set-split, length-take-le, take-all, take-at, drop-drop,
 use Rattle.meaning.specs.Text.{text}
 use Rattle.meaning.specs.Number.{decimal, writtenIn}
 use Rattle.meaning.specs.Write.{line, mark}
+use Rattle.theory.specs.Accepted.{line-length}
 use Rattle.text.specs.Packed.{byteOf, namedIn, named}
 use Rattle.space.specs.Answers.{over, Wrote, isYes}
 
@@ -235,25 +236,21 @@ part-back o w p a k h y r e =
       next = omega (arith, y .next);
     }
 
-pub line-long : (n v : List ℕ) → length (line n v) ≡ length n + 1 + length v + 1
-unfolding line
-line-long n v = simp length-append
-
 -- the four pieces of a line
 module _ (n v o : List ℕ) (fits : length (line n v) ≤ length o) where
   pub line-name : 0 + length n ≤ length o
-  line-name = omega (arith, line-long n v)
+  line-name = omega (arith, line-length n v)
 
   module _ (o1 : List ℕ) (a : ℕ) (y : Wrote 0 n o o1 a) where
     whole-1 : 0 + length (n ++ text "=") ≤ length o
-    whole-1 = simp length-append (omega (arith, line-long n v))
+    whole-1 = simp length-append (omega (arith, line-length n v))
 
     pub line-sign : a + 1 ≤ length o1
     line-sign = wrote-room 0 n (text "=") o o1 a whole-1 y
 
     module _ (o2 : List ℕ) (b : ℕ) (z : Wrote a (61 ∷ []) o1 o2 b) where
       whole-2 : 0 + length (n ++ text "=" ++ v) ≤ length o
-      whole-2 = simp length-append (omega (arith, line-long n v))
+      whole-2 = simp length-append (omega (arith, line-length n v))
 
       named-2 : Wrote 0 (n ++ text "=") o o2 b
       named-2 = wrote-both 0 n (text "=") o o1 a whole-1 y o2 b z
@@ -263,7 +260,7 @@ module _ (n v o : List ℕ) (fits : length (line n v) ≤ length o) where
 
       module _ (o3 : List ℕ) (c : ℕ) (x : Wrote b v o2 o3 c) where
         whole-3 : 0 + length (n ++ text "=" ++ v ++ text "\n") ≤ length o
-        whole-3 = simp length-append (omega (arith, line-long n v))
+        whole-3 = simp length-append (omega (arith, line-length n v))
 
         named-3 : Wrote 0 (n ++ text "=" ++ v) o o3 c
         named-3 = wrote-both 0 (n ++ text "=") v o o2 b whole-2 named-2 o3 c x
@@ -364,9 +361,9 @@ module _ (n m : ℕ) where
   no-done at o o1 r e y = rw (mark-no e) y
 
   pub yes-long : (k : ℕ) → k ≡ length (named n) → m ≡ 2 → (r : ℕ) → r ≡ k + 5 → r ≡ length (line (named n) (mark (isYes m)))
-  yes-long k h e r z = rw (mark-yes e) (omega (arith, line-long (named n) (text "yes")))
+  yes-long k h e r z = rw (mark-yes e) (omega (arith, line-length (named n) (text "yes")))
 
   pub no-long : (k : ℕ) → k ≡ length (named n) → (m ≡ 2 → ⊥) → (r : ℕ) → r ≡ k + 4 → r ≡ length (line (named n) (mark (isYes m)))
-  no-long k h e r z = rw (mark-no e) (omega (arith, line-long (named n) (text "no")))
+  no-long k h e r z = rw (mark-no e) (omega (arith, line-length (named n) (text "no")))
 
 pub ruleset marking = (yes-room, no-room, yes-done, no-done, yes-long, no-long)

@@ -80,7 +80,7 @@ card-pieces sh es bs l i j a b c g p q r = rw (dueName-again (sh .model) (10 ∷
 -- HOW LONG A CARD IS
 
 -- a line, its mark and its LF
-line-length : (n v : List ℕ) → length (line n v) ≡ length n + length v + 2
+pub line-length : (n v : List ℕ) → length (line n v) ≡ length n + length v + 2
 unfolding line
 line-length n v = omega (arith, length-append (n ++ text "=" ++ v) (text "\n"), length-append (n ++ text "=") v, length-append n (text "="))
 

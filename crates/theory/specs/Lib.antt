@@ -43,6 +43,7 @@ pub mod Papers
 pub mod Accepted
 pub mod Written
 pub mod EventText
+pub mod Rows
 -- A case that was taken:
 pub mod Cases
 -- What is refused, and with which number:

@@ -21,12 +21,11 @@ use Rattle.meaning.specs.Card.{Put, readCard, readEvent, carriedBy}
 use Rattle.meaning.specs.Step.{putIn}
 use Rattle.meaning.specs.Write.{line, lines, mark, cardText}
 use Rattle.theory.specs.Lists.{Once, from-length}
-use Rattle.theory.specs.Formed.{Each, EventIn, Well}
-use Rattle.theory.specs.Cards.{CardIn, HappeningIn}
-use Rattle.theory.specs.Papers.{card-holds, event-holds}
+use Rattle.theory.specs.Formed.{Well}
+use Rattle.theory.specs.Cards.{CardIn}
+use Rattle.theory.specs.Papers.{card-holds}
 use Rattle.theory.specs.Accepted.{put-length}
-use Rattle.theory.specs.Written.{readCard-text}
-use Rattle.theory.specs.EventText.{putText, eventText, happening-text}
+use Rattle.theory.specs.Rows.{Rows, row-value, row-next, card-at, event-at, once}
 use Rattle.text.specs.declared.Found.{Found}
 use Rattle.text.specs.declared.Found.the-variants as F
 use Rattle.text.specs.Answers.{foundIn, further}
@@ -41,61 +40,23 @@ use Rattle.event.specs.declared.Happening.{Happening}
 use Rattle.card.specs.Answers.{markCode, valuePlaces, asCard}
 use Rattle.event.specs.Answers.{asHappening}
 use Rattle.write.specs.Texts.{part, shownBy, valueText, showing, nextText}
-use Rattle.space.proofs.Laws.{line-long}
 
 -- ARRAYS
 
 padded-all : (n : ℕ) (xs : List ℕ) (k : ℕ) → k ≡ length xs → take k (padded n 0 xs) ≡ xs
 padded-all n xs k e = rw e (padded-take n 0 xs)
 
--- ROWS: each a name, `=`, a value's text and one byte
-
-abbrev Rows : List ℕ → List Name → List Entry → Type 0
-Rows t [] es = Unit {0}
-Rows t (n ∷ ns) [] = Unit {0}
-Rows t (n ∷ ns) (e ∷ es) = (b : ℕ) × (u : List ℕ) × (t ≡ n ++ text "=" ++ e .shown ++ (b ∷ u)) × Rows u ns es
-
+-- where the texts stand
 module _ (s : List ℕ) where
-  -- behind a name and its `=`, and behind the whole row
-  row-value : (p : ℕ) (n v : List ℕ) (b : ℕ) (u : List ℕ) → drop p s ≡ n ++ text "=" ++ v ++ (b ∷ u) → drop (p + length n + 1) s ≡ v ++ (b ∷ u)
-  row-value p n v b u e =
-      let z : p + length n + 1 ≡ p + length (n ++ text "=") = omega (arith, length-append n (text "=")) in
-      rw (z, ← drop-drop (length (n ++ text "=")) p s, e, append-assoc (n ++ text "=") v (b ∷ u)) (drop-at (n ++ text "=") (v ++ (b ∷ u)) (length (n ++ text "=")) refl)
-
-  row-next : (p : ℕ) (n v : List ℕ) (b : ℕ) (u : List ℕ) → drop p s ≡ n ++ text "=" ++ v ++ (b ∷ u) → drop (p + length n + 1 + length v + 1) s ≡ u
-  row-next p n v b u e =
-      let z : p + length n + 1 + length v + 1 ≡ p + length n + 1 + length (v ++ (b ∷ [])) = omega (arith, length-append v (b ∷ [])) in
-      rw (z, ← drop-drop (length (v ++ (b ∷ []))) (p + length n + 1) s, row-value p n v b u e, ← append-assoc v (b ∷ []) u) (drop-at (v ++ (b ∷ [])) u (length (v ++ (b ∷ []))) refl)
-
-  -- where the texts stand
   places-shown : (d : Entry) (ns : List Name) (es : List Entry) (p i : ℕ) → Rows (drop p s) ns es → length ns ≡ length es → i < length es
       → part s (getD (valuePlaces p ns es) i 0) (length (getD es i d .shown)) ≡ getD es i d .shown
   unfolding valuePlaces
   places-shown d ns [] p i r l h = absurd (omega arith)
   places-shown d [] (e ∷ es) p i r l h = absurd (omega arith)
   places-shown d (n ∷ ns) (e ∷ es) p zero (b, u, q, r) l h =
-      rw (row-value p n (e .shown) b u q) (take-at (e .shown) (b ∷ u) (length (e .shown)) refl)
+      rw (row-value s p n (e .shown) b u q) (take-at (e .shown) (b ∷ u) (length (e .shown)) refl)
   places-shown d (n ∷ ns) (e ∷ es) p (suc i) (b, u, q, r) l h =
-      places-shown d ns es (p + length n + 1 + length (e .shown) + 1) i (subst (λ t. Rows t ns es) (sym (row-next p n (e .shown) b u q)) r) (omega arith) (omega arith)
-
--- the rows of a card
-card-rows : (ns : List Name) (es : List Entry) (rest : List ℕ) → Rows (lines (λ (e : Entry). e .shown) ns es ++ rest) ns es
-unfolding lines line
-card-rows [] es rest = tt
-card-rows (n ∷ ns) [] rest = tt
-card-rows (n ∷ ns) (e ∷ es) rest =
-    let more = lines (λ (e : Entry). e .shown) ns es in
-    (10, more ++ rest, append-assoc (n ++ text "=" ++ e .shown ++ text "\n") more rest ∙ append-assoc (n ++ text "=" ++ e .shown) (text "\n") (more ++ rest), card-rows ns es rest)
-
--- the rows of an event line, behind one byte
-event-rows : (sh : Sheet) (ps : List Put)
-    → (b : ℕ) × (u : List ℕ) × (joined (putText sh) ps ++ text "\n" ≡ b ∷ u) × Rows u (map (λ p. getD (sh .fields) (p .field) []) ps) (map (λ p. p .entry) ps)
-unfolding joined putText
-event-rows sh [] = (10, [], refl, tt)
-event-rows sh (p ∷ ps) =
-    let (b, u, q, r) = event-rows sh ps in
-    let row = getD (sh .fields) (p .field) [] ++ text "=" ++ p .entry .shown in
-    (32, row ++ (b ∷ u), ap (λ t. 32 ∷ t) (append-assoc row (joined (putText sh) ps) (text "\n") ∙ ap (λ t. row ++ t) q), (b, u, refl, r))
+      places-shown d ns es (p + length n + 1 + length (e .shown) + 1) i (subst (λ t. Rows t ns es) (sym (row-next s p n (e .shown) b u q)) r) (omega arith) (omega arith)
 
 -- WHAT IS PUT IN
 
@@ -148,12 +109,6 @@ put-found d q f (p ∷ ps) es i l o h = go (ℕ-discrete (p .field) f) (foundIn 
         let z : suc j ≡ i = cc in
         rw (← z) (ih j y)
 
--- an event carries a field once
-carries-once : (m : ℕ) (es : List Event) → Each (EventIn m) es → (i : ℕ) → Once (getD es i (record { name = []; carries = [] }) .carries)
-carries-once m [] h i = tt
-carries-once m (e ∷ es) h zero = h e (inl refl) .once
-carries-once m (e ∷ es) h (suc i) = carries-once m es (λ x j. h x (inr j)) i
-
 -- A CASE THAT WAS TAKEN
 
 -- the texts in the code's tables
@@ -196,35 +151,6 @@ module _ (sh : Sheet) (well : Well sh) (sc se : List ℕ) (mc : M.Card) (mh : M.
   card-in : CardIn sh mc
   card-in = card-holds sh sc mc card-taken .0
 
-  event-in : HappeningIn sh mh
-  event-in = event-holds sh se well mh event-taken
-
-  -- the rows of the card, behind its first line
-  card-at : Rows (drop (5 + length (sh .model) + 1) sc) (sh .fields) (mc .entries)
-  unfolding cardText
-  card-at =
-      let first = line (text "case") (sh .model) in
-      let fields = lines (λ (e : Entry). e .shown) (sh .fields) (mc .entries) in
-      let marks = lines mark (statusNames (statuses sh)) (mc .statuses) in
-      let end = line (text "end") (decimal (length (mc .entries) + length (mc .statuses))) in
-      let whole : sc ≡ first ++ (fields ++ (marks ++ end)) = readCard-text sh well sc mc card-taken ∙ append-assoc (first ++ fields) marks end ∙ append-assoc first fields (marks ++ end) in
-      let long : length first ≡ 5 + length (sh .model) + 1 = omega (arith, line-long (text "case") (sh .model)) in
-      subst (λ t. Rows t (sh .fields) (mc .entries)) (sym (rw whole (drop-at first (fields ++ (marks ++ end)) (5 + length (sh .model) + 1) long))) (card-rows (sh .fields) (mc .entries) (marks ++ end))
-
-  -- the rows of the event line, behind the event's name and a space
-  event-at : Rows (drop (length (getD (eventNames (sh .events)) (mh .event) []) + 1) se) (map (λ p. getD (sh .fields) (p .field) []) (mh .puts)) (map (λ p. p .entry) (mh .puts))
-  unfolding eventText
-  event-at =
-      let name = getD (eventNames (sh .events)) (mh .event) [] in
-      let (b, u, q, r) = event-rows sh (mh .puts) in
-      let whole : se ≡ name ++ (b ∷ []) ++ u = happening-text sh se mh event-taken ∙ append-assoc name (joined (putText sh) (mh .puts)) (text "\n") ∙ ap (λ t. name ++ t) q ∙ sym (append-assoc name (b ∷ []) u) in
-      let long : length (name ++ (b ∷ [])) ≡ length name + 1 = length-append name (b ∷ []) in
-      subst (λ t. Rows t (map (λ p. getD (sh .fields) (p .field) []) (mh .puts)) (map (λ p. p .entry) (mh .puts))) (sym (rw whole (drop-at (name ++ (b ∷ [])) u (length name + 1) long))) r
-
-  once : Once (map (λ p. p .field) (mh .puts))
-  unfolding carriedBy
-  once = rw (event-in .carried) (carries-once (length (sh .fields)) (sh .events) (well .events) (mh .event))
-
   module _ (d : Entry) (f : ℕ) (within : f < length (sh .fields)) where
     value-is : valueText se sc (asHappening sh mh) (asCard sh mc) f ≡ getD (putIn (mh .puts) (mc .entries)) f d .shown
     unfolding valueText asHappening asCard
@@ -235,13 +161,13 @@ module _ (sh : Sheet) (well : Well sh) (sc se : List ℕ) (mc : M.Card) (mh : M.
         go : (x : Found) → foundIn f (map (λ p. p .field) (mh .puts)) ≡ x → shownBy se sc (asHappening sh mh) (asCard sh mc) f x ≡ getD (putIn (mh .puts) (mc .entries)) f d .shown
         go (F.At i) q =
             let few : i < length (mh .puts) = omega (arith, found-within f (map (λ p. p .field) (mh .puts)) i q, length-map (mh .puts) (λ (p : Put). p .field)) in
-            shown-at se d (map (λ p. getD (sh .fields) (p .field) []) (mh .puts)) (map (λ p. p .entry) (mh .puts)) (length (getD (eventNames (sh .events)) (mh .event) []) + 1) event-at
+            shown-at se d (map (λ p. getD (sh .fields) (p .field) []) (mh .puts)) (map (λ p. p .entry) (mh .puts)) (length (getD (eventNames (sh .events)) (mh .event) []) + 1) (event-at sh well se mh event-taken)
             (length-map (mh .puts) (λ (p : Put). getD (sh .fields) (p .field) []) ∙ sym (length-map (mh .puts) (λ (p : Put). p .entry)))
             i (omega (arith, length-map (mh .puts) (λ (p : Put). p .entry)))
             ∙ ap (λ (e : Entry). e .shown) (List·getD-map (λ (p : Put). p .entry) (mh .puts) i (record { field = 0; entry = d })
-            ∙ sym (put-found d (record { field = 0; entry = d }) f (mh .puts) (mc .entries) i (omega (arith, card-in .entries)) once q))
+            ∙ sym (put-found d (record { field = 0; entry = d }) f (mh .puts) (mc .entries) i (omega (arith, card-in .entries)) (once sh well se mh event-taken) q))
         go F.Nothing q =
-            shown-at sc d (sh .fields) (mc .entries) (5 + length (sh .model) + 1) card-at (sym (card-in .entries)) f (omega (arith, card-in .entries))
+            shown-at sc d (sh .fields) (mc .entries) (5 + length (sh .model) + 1) (card-at sh well sc mc card-taken) (sym (card-in .entries)) f (omega (arith, card-in .entries))
             ∙ ap (λ (e : Entry). e .shown) (sym (put-kept d f (mh .puts) (mc .entries) q))
 
   module _ (c : Card) (e : Happening) (c-is : c ≡ asCard sh mc) (e-is : e ≡ asHappening sh mh) where

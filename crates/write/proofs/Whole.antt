@@ -11,6 +11,7 @@ use Rattle.meaning.specs.Number.{Entry, decimal}
 use Rattle.meaning.specs.Sheet.{Sheet, Status, statuses, statusNames}
 use Rattle.meaning.specs.Write.{line, lines, mark, cardText}
 use Rattle.theory.specs.Lists.{from-length}
+use Rattle.theory.specs.Accepted.{line-length}
 use Rattle.text.specs.Packed.{named}
 use Rattle.tables.specs.declared.Heads.{Heads}
 use Rattle.tables.specs.Heads.{headsOf, namesAt, Sized}
@@ -24,7 +25,7 @@ use Rattle.write.specs.Texts.{showing, valueText, nextText}
 use Rattle.write.specs.Answers.{asWritten, spaceWith}
 use Rattle.space.specs.Answers.{Wrote, isYes}
 use Rattle.write.specs.Lines.{markAt, linesFrom}
-use Rattle.space.proofs.Laws.{wrote-room, wrote-both, line-long}
+use Rattle.space.proofs.Laws.{wrote-room, wrote-both}
 
 -- LINES OF TABLES
 
@@ -112,8 +113,8 @@ module _ (h : Heads) (event card : List ℕ) (e : Happening) (c : Card) (marks :
     pub card-long : (m b d k : ℕ) → m ≡ length (named (h .model)) → b ≡ length fieldsLines → d ≡ length marksLines
         → k ≡ length (decimal (h .fields + (h .stages + h .miles))) → (r : ℕ) → r ≡ m + 6 + b + d + k + 5 → r ≡ length (nextText (headsOf h) event card e c marks)
     card-long m b d k p q s t r z =
-        let a1 = line-long (text "case") (named (h .model)) in
-        let a2 = line-long (text "end") (decimal (h .fields + (h .stages + h .miles))) in
+        let a1 = line-length (text "case") (named (h .model)) in
+        let a2 = line-length (text "end") (decimal (h .fields + (h .stages + h .miles))) in
         rw next-is (simp length-append (omega arith))
 
     -- written, one part behind the other
