@@ -141,8 +141,6 @@ module _ (st fd : List Name) (d : ℕ) (neg : Bool) (s : List ℕ) (top leaves :
                 gives-refused (items st fd neg d) s top leaves was is c (reads ∙ rw (f .0 0)) (f .1)
             go (At q) e = shut q (given-found (conditions st fd neg (d - 1)) v top leaves was is (conditions-tell st fd neg (d - 1)) r g q e) (inline-told (due-built (text ")") cond-fault) (drop (1 + q .bytes) s))
 
-pub ruleset item-cases = (item-ended, item-not-deep, item-not-within, item-not, item-leaf, item-group-deep, item-group)
-
 -- the whole condition: what is answered, and the lent words
 module _ (st fd : List Name) (s : List ℕ) (top leaves : ℕ) (was is : List ℕ) (r : CondRead) (g : Gives (conditions st fd false 8) s top leaves r was is) where
   pub whole-answer : r ≡ asCondition s top leaves (condition st fd leaves 0 s)

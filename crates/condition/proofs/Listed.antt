@@ -246,5 +246,3 @@ pub list-less : (w s : List ℕ) (at n : ℕ) (r : CondRead) (q : Place) (b : Bo
 list-less w s at n r q b er eb h en m em long =
     let z : length w ≤ length s - n = rw (← length-drop n s) (begins-fits w (drop n s) (sym eb ∙ not-false b h)) in
     omega arith
-
-pub ruleset turns = (list-start, list-ready, list-refused, list-fits, list-end, list-on, list-less, list-next)
