@@ -3,7 +3,7 @@ use Prim.Native.Nat.{ℕ, _≤_}
 use mathlib.Core.Path.{_≡_, refl, sym, _∙_, ap}
 use mathlib.Core.List.{List, []}
 use mathlib.Core.Option.{Option, none, some, Option·some-injective}
-use lib.ListN.{take}
+use lib.ListN.{length, take}
 use native.Mathlib.Omega.{arith}
 use Rattle.meaning.specs.Text.{In}
 use Rattle.meaning.specs.Refusal.{Answer, taken, refused, onTaken, CYCLE}
@@ -21,13 +21,14 @@ use Rattle.theory.specs.Formed.{Well}
 use Rattle.theory.specs.Papers.{sheet-holds}
 use Rattle.theory.specs.Numbers.{sheet-tells}
 use Rattle.verdict.specs.Fits.{Fits}
+use Rattle.rules.specs.Answers.{allWords}
 use Rattle.order.specs.Answers.{asSorting}
 use Rattle.graph.proofs.Callers.{order-some}
 use Rattle.tables.specs.Heads.{padded, asHeads, allNames, headsOf, Sized}
 use Rattle.tables.proofs.Tables as Tables
 use Rattle.accepted.specs.declared.Accepted.{Accepted}
 use Rattle.accepted.specs.Answers.{takenSheet, refusedSheet, asAccepted}
-use Rattle.accepted.proofs.Fitting.{sheet-fits}
+use Rattle.accepted.proofs.Fitting.{sheet-fits, sheet-words}
 
 -- conditions that the machine values rightly
 abbrev AllFit : Sheet → Type 0
@@ -44,6 +45,10 @@ accepted-holds P s h = on-holds (λ sh. paper 1 sheetBytes sheet s ≡ taken sh)
 
 pub accepted-fits : (s : List ℕ) → Holds (readSheet s) (λ a. AllFit (a .sheet))
 accepted-fits s = accepted-holds (λ sh o. AllFit sh) s (λ sh e o q. sheet-fits s sh e)
+
+-- the words of its conditions fit their array
+pub accepted-words : (s : List ℕ) → Holds (readSheet s) (λ a. length (allWords (a .sheet .rules)) ≤ 1024)
+accepted-words s = accepted-holds (λ sh o. length (allWords (sh .rules)) ≤ 1024) s (λ sh e o q. sheet-words s sh e)
 
 -- the order at the start of its array
 pub accepted-order : (s : List ℕ) → Holds (readSheet s) (λ a. take (nodes (a .sheet)) (padded 64 0 (a .order)) ≡ a .order)

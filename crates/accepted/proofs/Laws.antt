@@ -27,9 +27,9 @@ use Rattle.theory.specs.Sheets.{sheet-well}
 use Rattle.theory.specs.Numbers.{sheet-tells}
 use Rattle.tables.specs.declared.Heads.{Heads}
 use Rattle.tables.specs.Heads.{padded, underCode, asHeads, blank}
-use Rattle.tables.proofs.Padded.{padded-take}
 use Rattle.rules.specs.declared.Rules.{Rules}
-use Rattle.rules.specs.Answers.{noRule, asRows, allWords, asRules}
+use Rattle.rules.specs.Answers.{asRows, allWords, asRules}
+use Rattle.rules.proofs.Callers.{rows-taken}
 use Rattle.sheet.specs.declared.SheetRead.{SheetRead}
 use Rattle.sheet.specs.Answers.{asSheetRead}
 use Rattle.order.specs.declared.Sorting.{Sorting}
@@ -71,15 +71,6 @@ record Read (s : List ℕ) (r : SheetRead) : Type 0 where
   sh : M.Sheet
   is : paper 1 sheetBytes sheet s ≡ taken sh
   same : r ≡ asSheetRead (taken sh)
-
-rows-long : (top : ℕ) (rs : List M.Rule) → length (asRows top rs) ≡ length rs
-unfolding asRows
-rows-long top [] = refl
-rows-long top (r ∷ rs) = ap suc (rows-long _ rs)
-
-rows-taken : (rs : List M.Rule) → take (asRules rs .count) (asRules rs .rows) ≡ asRows 0 rs
-unfolding asRules
-rows-taken rs = rw (← rows-long 0 rs) (padded-take 128 noRule (asRows 0 rs))
 
 module _ (s : List ℕ) (r : SheetRead) (told : r ≡ asSheetRead (paper 1 sheetBytes sheet s)) where
   number-told : (n p l : ℕ) → paper 1 sheetBytes sheet s ≡ refused n p l → 1 ≤ n

@@ -17,6 +17,10 @@ use Rattle.meaning.specs.Number.{Entry, endLine}
 use Rattle.meaning.specs.Sheet.{Sheet, statuses, statusNames}
 use Rattle.meaning.specs.Card as M
 use Rattle.meaning.specs.Card.{fieldEntry, statusMark, ended, card, orphan, sheltered, readCard}
+use Rattle.theory.specs.Readers.{each-length}
+use Rattle.theory.specs.Shelter.{orphan-same, orphan-below}
+use Rattle.theory.specs.BuiltPapers.{card-built}
+use Rattle.theory.specs.Faults.{never-zero}
 use Rattle.text.specs.declared.Bytes.{Bytes}
 use Rattle.text.specs.declared.Bytes.the-variants as B
 use Rattle.text.specs.Answers.{asBytes}
@@ -39,9 +43,8 @@ use Rattle.lines.specs.Answers.{bytesFault, caseLine}
 use Rattle.lines.proofs.Told.{after-after}
 use Rattle.lines.proofs.Pieces.{Took}
 use Rattle.lines.proofs.Callers.{case-took, case-kept}
-use Rattle.card.proofs.Faults.{Sound, sounds-card}
-use Rattle.card.proofs.Rows.{names-length, each-length}
-use Rattle.card.proofs.Marks.{orphan-same, marks-side, orphan-below}
+use Rattle.card.proofs.Rows.{names-length}
+use Rattle.card.proofs.Marks.{marks-side}
 use Rattle.card.proofs.Sheets.{length-held, model-is, fields-are, statuses-are, stages-length}
 
 -- what stands behind the first line, behind the fields, behind the statuses
@@ -136,8 +139,8 @@ module _ (h : Heads) (s : List ℕ) (k : Bytes) (case : k ≡ asBytes s (caseLin
             unfolding es ss
             counted = omega (
               arith,
-              each-length _ _ _ _ _ _ _ (fields .gave .good ok .2),
-              each-length _ _ _ _ _ _ _ (marks .gave .good ok-2 .2),
+              each-length _ _ .gives _ _ .of _ _ _ (fields .gave .good ok .2),
+              each-length _ _ .gives _ _ .of _ _ _ (marks .gave .good ok-2 .2),
               names-length (h .names) (h .fields) (fields .few),
               names-length (drop (h .fields + h .events) (h .names)) (h .stages + h .miles) fewer,
             )
@@ -206,11 +209,11 @@ pub record CardTaken (sh : Sheet) (s : List ℕ) (r : CardRead) : Type 0 where
 
 module _ (sh : Sheet) (s : List ℕ) (r : CardRead) (lines : r ≡ asCardRead sh (answered 2 (card sh 1 s))) where
   lines-taken : r .number ≡ 0 → CardTaken sh s r
-  lines-taken z = go (card sh 1 s) refl (sounds-card sh .of 1 s)
+  lines-taken z = go (card sh 1 s) refl
     where
-      go : (g : Got M.Card) → card sh 1 s ≡ g → Sound g → CardTaken sh s r
-      go (got c l t) e h = record { card = c; line = l; rest = t; is = e; told = lines ∙ rw e }
-      go (wrong k l) e h = let y : r ≡ refusedCard k l = lines ∙ rw e in absurd (h (sym (ap (λ a. a .number) y) ∙ z))
+      go : (g : Got M.Card) → card sh 1 s ≡ g → CardTaken sh s r
+      go (got c l t) e = record { card = c; line = l; rest = t; is = e; told = lines ∙ rw e }
+      go (wrong k l) e = let y : r ≡ refusedCard k l = lines ∙ rw e in absurd (never-zero (card-built sh) 1 s k l e (sym (ap (λ a. a .number) y) ∙ z))
 
   lines-refused : (r .number ≡ 0 → ⊥) → (f : M.Card → Answer M.Card) → r ≡ asCardRead sh (onTaken (answered 2 (card sh 1 s)) f)
   lines-refused n f = go (card sh 1 s) refl

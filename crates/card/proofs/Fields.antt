@@ -11,6 +11,8 @@ use Rattle.meaning.specs.Reading.{Got, got, wrong, each}
 use Rattle.meaning.specs.Name.{Name}
 use Rattle.meaning.specs.Number.{Entry}
 use Rattle.meaning.specs.Card.{fieldEntry, ended}
+use Rattle.theory.specs.BuiltPapers.{ended-built, entry-line-built}
+use Rattle.theory.specs.Faults.{never-zero}
 use Rattle.text.specs.Packed.{named}
 use Rattle.lines.specs.declared.ValuePiece.{ValuePiece}
 use Rattle.lines.specs.declared.ValuePiece.the-variants as VP
@@ -19,7 +21,6 @@ use Rattle.card.specs.Parts.{Rows, FieldsAs}
 use Rattle.lines.specs.Answers.{asValue}
 use Rattle.lines.proofs.Pieces.{Valued}
 use Rattle.lines.proofs.Callers.{field-took, field-kept}
-use Rattle.card.proofs.Faults.{sound-wrong, sounds-field}
 use Rattle.card.proofs.Rows.{nextPlace, rows-none, rows-more, place-more, names-cons, names-length, names-at, before, before-none, each-wrong, each-more, each-over}
 
 abbrev fieldLines : List Name → ℕ → List ℕ → Got (List Entry)
@@ -57,7 +58,7 @@ module _ (s names : List ℕ) (count p at : ℕ) (values starts lengths : List �
         let w : ended (fieldEntry (named (getD names i 0))) l t ≡ wrong k l = field-kept _ t q is k e l in
         let u : fieldLines (map named (take count names)) 2 (drop p s) ≡ wrong k l
         = g .same ∙ rw (← y, ← rest, names-cons names count i more held) (each-wrong _ _ _ l t k l (g .es) w) in
-        let n : k ≡ 0 → ⊥ = sound-wrong _ k l (sounds-field (named (getD names i 0)) .of l t) w in
+        let n : k ≡ 0 → ⊥ = never-zero (ended-built (entry-line-built (named (getD names i 0)))) l t k l w in
         record { few = held; gave = record { within = omega (arith, z .2); low = omega (arith, z .1); good = λ o. absurd (n (sym (z .0) ∙ o)); bad = λ _. u ∙ rw (z .0, z .1) } }
 
     module _ (v n k : ℕ) (e : q ≡ VP.Value v n k) where

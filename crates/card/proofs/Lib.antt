@@ -1,10 +1,8 @@
--- What holds of every reader here, tables that grow, and the names of a sheet:
-pub mod Faults
+-- Tables that grow, and the names of a sheet:
 pub mod Rows
 pub mod Sheets
 -- The functions, and what callers use:
 pub mod Fields
 pub mod Marks
 pub mod Cards
-pub mod Events
 pub mod Callers

@@ -3,7 +3,7 @@ use Prim.Native.Nat.{ℕ, zero, suc, _+_, _-_, _≤_, _<_}
 use mathlib.Core.Path.{_≡_, refl, sym, _∙_, ap}
 use mathlib.Core.Bool.{Bool, true, false, cond, not, _&&_}
 use mathlib.Core.List.{List, [], _∷_, _++_, map}
-use mathlib.Core.Option.{Option, none, some, Option·none-ne-some, Option·some-injective}
+use mathlib.Core.Option.{some}
 use native.Mathlib.Omega.{arith}
 use native.Mathlib.Numerals.{add-one}
 use borrow.Author.Tests.{eq-eqb, ne-eqb}
@@ -17,8 +17,11 @@ use Rattle.meaning.specs.Reading.{Got, got, wrong, each}
 use Rattle.meaning.specs.Name.{Name}
 use Rattle.meaning.specs.Sheet.{Status}
 use Rattle.meaning.specs.Card.{is, statusMark, ended, shut, orphan}
+use Rattle.theory.specs.BuiltPapers.{ended-built, mark-line-built}
+use Rattle.theory.specs.Faults.{never-zero}
 use Rattle.text.specs.Packed.{named}
 use Rattle.tables.specs.declared.Heads.{Heads}
+use Rattle.tables.proofs.Padded.{behind-at}
 use Rattle.tables.specs.Heads.{Sized, padded, underOf, statusAt, headsOf}
 use Rattle.lines.specs.declared.MarkPiece.{MarkPiece}
 use Rattle.lines.specs.declared.MarkPiece.the-variants as M
@@ -29,7 +32,6 @@ use Rattle.card.specs.Parts.{MarksAs, sideOf, asOrphan}
 use Rattle.lines.specs.Answers.{asMark}
 use Rattle.lines.proofs.Pieces.{Marked}
 use Rattle.lines.proofs.Callers.{status-took, status-kept}
-use Rattle.card.proofs.Faults.{sound-wrong, sounds-status}
 use Rattle.card.proofs.Rows.{column-more, names-cons, names-length, before, before-none, each-wrong, each-more, each-over}
 
 -- THE LINES
@@ -79,7 +81,7 @@ module _ (s names : List ℕ) (first count p line at : ℕ) (marks : List ℕ) (
         let w : ended (statusMark (named (getD names j 0))) l t ≡ wrong k l = status-kept _ t q is k e l in
         let u : statusLines (map named (take count (drop first names))) line (drop p s) ≡ wrong k l
         = g .same ∙ rw (← y, ← rest, here) (each-wrong _ _ _ l t k l (g .bs) w) in
-        let n : k ≡ 0 → ⊥ = sound-wrong _ k l (sounds-status (named (getD names j 0)) .of l t) w in
+        let n : k ≡ 0 → ⊥ = never-zero (ended-built (mark-line-built (named (getD names j 0)))) l t k l w in
         record { few = held; gave = record { within = omega (arith, z .2); low = omega (arith, z .1); good = λ o. absurd (n (sym (z .0) ∙ o)); bad = λ _. u ∙ rw (z .0, z .1) } }
 
     module _ (b n : ℕ) (e : q ≡ M.Mark b n) where
@@ -165,46 +167,12 @@ module _ (h : Heads) (marks : List ℕ) (x : ℕ) (so : orphan (sideOf marks) 0 
 
 pub ruleset scanning = (scan-under, scan-start, scan-done, scan-found, scan-next)
 
--- orphans go by what the statuses are
-pub orphan-same : (a b : List Bool) → ((x : ℕ) → is a x ≡ is b x) → (x : ℕ) (ss : List Status) → orphan a x ss ≡ orphan b x ss
-unfolding orphan
-orphan-same a b h x [] = refl
-orphan-same a b h x (s ∷ ss) = go (s .under) (orphan-same a b h (suc x) ss)
-  where
-    pick : (c : Bool) (o : Option ℕ) {p q : Option ℕ} → p ≡ q → _≡_ {A = Option ℕ} (elim c [ true ↦ o | false ↦ p ]) (elim c [ true ↦ o | false ↦ q ])
-    pick true o e = refl
-    pick false o e = e
-
-    go : (u : Option ℕ) → orphan a (suc x) ss ≡ orphan b (suc x) ss → _≡_ {A = Option ℕ} (elim (is a x && shut a u) [ true ↦ some x | false ↦ orphan a (suc x) ss ]) (elim (is b x && shut b u) [ true ↦ some x | false ↦ orphan b (suc x) ss ])
-    go none e = rw (h x) (pick (is b x && false) (some x) e)
-    go (some p) e = rw (h x, h p) (pick (is b x && not (is b p)) (some x) e)
-
 code-yes : (b : Bool) → eqb (markCode b) 2 ≡ b
 code-yes true = refl
 code-yes false = refl
-
-padded-at : (n : ℕ) (xs : List ℕ) (x : ℕ) → getD (xs ++ replicate n 0) x 0 ≡ getD xs x 0
-padded-at n [] x = zeros n x
-  where
-    zeros : (n x : ℕ) → _≡_ {A = ℕ} (getD (replicate n 0) x 0) 0
-    zeros zero x = refl
-    zeros (suc n) zero = refl
-    zeros (suc n) (suc x) = zeros n x
-padded-at n (y ∷ xs) zero = refl
-padded-at n (y ∷ xs) (suc x) = padded-at n xs x
 
 pub marks-side : (marks : List ℕ) (bs : List Bool) → marks ≡ padded 32 0 (map markCode bs) → (x : ℕ) → is (sideOf marks) x ≡ is bs x
 unfolding padded
 marks-side marks bs e x =
     yes-at marks x
-    ∙ rw (e, padded-at (32 - length (map markCode bs)) (map markCode bs) x, List·getD-map markCode bs x false) (code-yes (is bs x))
-
--- an orphan is one of the stages
-pub orphan-below : (side : List Bool) (ss : List Status) (x y : ℕ) → orphan side x ss ≡ some y → y < x + length ss
-unfolding orphan
-orphan-below side [] x y e = absurd (Option·none-ne-some y e)
-orphan-below side (s ∷ ss) x y e = go (is side x && shut side (s .under)) e (orphan-below side ss (suc x) y)
-  where
-    go : (b : Bool) → _≡_ {A = Option ℕ} (elim b [ true ↦ some x | false ↦ orphan side (suc x) ss ]) (some y) → (orphan side (suc x) ss ≡ some y → y < suc x + length ss) → y < x + suc (length ss)
-    go true e ih = let z : x ≡ y = Option·some-injective x y e in omega arith
-    go false e ih = let z = ih e in omega arith
+    ∙ rw (e, behind-at 0 (32 - length (map markCode bs)) (map markCode bs) x, List·getD-map markCode bs x false) (code-yes (is bs x))

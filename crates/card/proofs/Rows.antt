@@ -1,7 +1,7 @@
 -- Tables with one row more, and a reader for each member of a list: what is still to be read gives the whole.
 use Prim.Native.Nat.{ℕ, zero, suc, _+_, _-_, _≤_, _<_}
 use mathlib.Core.Path.{_≡_, refl, sym, _∙_, ap}
-use mathlib.Core.List.{List, [], _∷_, _++_, map, append-nil}
+use mathlib.Core.List.{List, [], _∷_, _++_, map, map-append, append-nil}
 use native.Mathlib.Omega.{arith}
 use native.Mathlib.Numerals.{add-one}
 use lib.ListN.{length, take, drop, getD, set, replicate, length-map, length-append, List·getD-map}
@@ -12,35 +12,24 @@ use Rattle.meaning.specs.Number.{Entry}
 use Rattle.text.specs.Packed.{named, namedIn}
 use Rattle.number.specs.Answers.{coded}
 use Rattle.tables.specs.Heads.{padded}
+use Rattle.tables.proofs.Padded.{padded-set}
 use Rattle.card.specs.Answers.{valuePlaces}
 use Rattle.card.specs.Parts.{Rows}
 
 -- TABLES
-module _ {A B : Type 0} (f : A → B) where
-  pub map-more : (xs : List A) (a : A) → map f (xs ++ (a ∷ [])) ≡ map f xs ++ (f a ∷ [])
-  map-more [] a = refl
-  map-more (x ∷ xs) a = ap (λ r. f x ∷ r) (map-more xs a)
-
-  pub map-drop : (i : ℕ) (xs : List A) → drop i (map f xs) ≡ map f (drop i xs)
-  map-drop zero xs = refl
-  map-drop (suc i) [] = refl
-  map-drop (suc i) (x ∷ xs) = map-drop i xs
-
-pub map-map : {A B C : Type 0} (f : A → B) (g : B → C) (xs : List A) → map g (map f xs) ≡ map (λ x. g (f x)) xs
-map-map f g [] = refl
-map-map f g (x ∷ xs) = ap (λ r. g (f x) ∷ r) (map-map f g xs)
+map-drop : {A B : Type 0} (f : A → B) (i : ℕ) (xs : List A) → drop i (map f xs) ≡ map f (drop i xs)
+map-drop f zero xs = refl
+map-drop f (suc i) [] = refl
+map-drop f (suc i) (x ∷ xs) = map-drop f i xs
 
 pub padded-more : {A : Type 0} (n : ℕ) (d : A) (xs : List A) (a : A) (i : ℕ) → length xs ≡ i → i < n → set (padded n d xs) i a ≡ padded n d (xs ++ (a ∷ []))
-unfolding padded
-padded-more n d xs a i e h =
-    let y : n - length xs ≡ suc (n - length (xs ++ (a ∷ []))) = simp length-append (omega arith) in
-    rw y (set-at xs d _ a i e ∙ sym (append-snoc xs a _))
+padded-more n d xs a i e h = rw (← e) (padded-set n d xs a (omega arith))
 
 -- a column of a table, whatever it tells of a row
 pub column-more : {A : Type 0} (f : A → ℕ) (n : ℕ) (xs : List ℕ) (rows : List A) (a : A) (i v : ℕ) → xs ≡ padded n 0 (map f rows) → length rows ≡ i → i < n → v ≡ f a
     → set xs i v ≡ padded n 0 (map f (rows ++ (a ∷ [])))
 column-more f n xs rows a i v held many room e =
-    rw (held, e, map-more f rows a) (padded-more n 0 (map f rows) (f a) i (length-map rows f ∙ many) room)
+    rw (held, e, map-append f rows (a ∷ [])) (padded-more n 0 (map f rows) (f a) i (length-map rows f ∙ many) room)
 
 -- where the next name stands
 unfoldable pub nextPlace : ℕ → List Name → List Entry → ℕ
@@ -68,7 +57,7 @@ module _ (e : Entry) where
   places-more p (n ∷ ns) [] h = ap (λ r. (p + length n + 1) ∷ r) (places-none _ ns)
   places-more p (n ∷ ns) (x ∷ es) h = ap (λ r. (p + length n + 1) ∷ r) (places-more (p + length n + 1 + length (x .shown) + 1) ns es (omega arith))
 
-places-length : (p : ℕ) (ns : List Name) (es : List Entry) → length es ≤ length ns → length (valuePlaces p ns es) ≡ length es
+pub places-length : (p : ℕ) (ns : List Name) (es : List Entry) → length es ≤ length ns → length (valuePlaces p ns es) ≡ length es
 unfolding valuePlaces
 places-length p [] [] h = refl
 places-length p [] (e ∷ es) h = absurd (omega arith)
@@ -137,18 +126,3 @@ module _ {A B : Type 0} (r : B → Reader A) (b : B) (bs : List B) (l : ℕ) (t 
 pub each-over : {A B : Type 0} (r : B → Reader A) (l : ℕ) (t : List ℕ) (xs : List A) → before xs (each r [] l t) ≡ got xs l t
 unfolding each
 each-over r l t xs = ap (λ y. got y l t) (append-nil xs)
-
--- as many were read as there are
-pub each-length : {A B : Type 0} (r : B → Reader A) (bs : List B) (l m : ℕ) (t u : List ℕ) (xs : List A) → each r bs l t ≡ got xs m u → length xs ≡ length bs
-unfolding each
-each-length r [] l m t u xs e = let z : xs ≡ [] = cc in rw z
-each-length {A} r (b ∷ bs) l m t u xs e = first (r b l t) e (each-length r bs)
-  where
-    next : (a : A) (g : Got (List A)) → after g (λ ys l s. got (a ∷ ys) l s) ≡ got xs m u → ((ys : List A) (m : ℕ) (u : List ℕ) → g ≡ got ys m u → length ys ≡ length bs) → length xs ≡ suc (length bs)
-    next a (got ys l s) e ih = let z : xs ≡ a ∷ ys = cc in rw z (ap suc (ih ys l s refl))
-    next a (wrong k l) e ih = let z : _≡_ {A = ℕ} 0 1 = cc in absurd (omega arith)
-
-    first : (g : Got A) → after g (λ a l s. after (each r bs l s) (λ ys l s. got (a ∷ ys) l s)) ≡ got xs m u
-        → ((l m : ℕ) (t u : List ℕ) (ys : List A) → each r bs l t ≡ got ys m u → length ys ≡ length bs) → length xs ≡ suc (length bs)
-    first (got a l s) e ih = next a (each r bs l s) e (λ ys m u q. ih l m s u ys q)
-    first (wrong k l) e ih = let z : _≡_ {A = ℕ} 0 1 = cc in absurd (omega arith)

@@ -1,20 +1,17 @@
 -- The names of the sheet for which tables stand.
-use Prim.Native.Nat.{ℕ, zero, suc, _+_, _-_, _*_, _≤_, _<_}
+use Prim.Native.Nat.{ℕ, zero, suc, _+_, _≤_}
 use mathlib.Core.Path.{_≡_, refl, sym, _∙_, ap}
 use mathlib.Core.List.{List, [], _∷_, _++_, map}
 use native.Mathlib.Omega.{arith}
-use native.Mathlib.Numerals.{add-one}
-use lib.ListN.{length, take, drop, getD, length-drop, length-map}
-use lib.Seq.{drop-cons, getD-take, getD-drop, length-take-le}
+use lib.ListN.{length, take, drop, getD, length-map}
+use lib.Seq.{drop-cons}
 use Rattle.meaning.specs.Text.{from}
 use Rattle.meaning.specs.Name.{Name}
-use Rattle.meaning.specs.Sheet.{Event, Status, statuses, statusNames, eventNames}
-use Rattle.meaning.specs.Card.{carriedBy}
+use Rattle.meaning.specs.Sheet.{Status, statuses, statusNames}
 use Rattle.theory.specs.Lists.{from-length}
 use Rattle.text.specs.Packed.{named}
 use Rattle.tables.specs.declared.Heads.{Heads}
-use Rattle.tables.specs.Heads.{Sized, namesAt, eventAt, statusAt, headsOf}
-use Rattle.card.proofs.Rows.{names-at}
+use Rattle.tables.specs.Heads.{namesAt, statusAt, headsOf}
 
 pub length-held : {B : Type 0} (f : ℕ → B) (xs : List ℕ) (n : ℕ) → length (map f xs) ≡ n → length xs ≡ n
 length-held f xs n e = sym (length-map xs f) ∙ e
@@ -28,7 +25,7 @@ unfolding headsOf namesAt
 fields-are h = refl
 
 -- the names at the places from a + b on
-names-from : {A : Type 0} (xs : List ℕ) (a : ℕ) (f : ℕ → A) (g : A → Name) → ((x : ℕ) → g (f x) ≡ named (getD xs (a + x) 0)) → (n b : ℕ) → a + b + n ≤ length xs
+pub names-from : {A : Type 0} (xs : List ℕ) (a : ℕ) (f : ℕ → A) (g : A → Name) → ((x : ℕ) → g (f x) ≡ named (getD xs (a + x) 0)) → (n b : ℕ) → a + b + n ≤ length xs
     → map g (map f (from b n)) ≡ map named (take n (drop (a + b) xs))
 unfolding from
 names-from xs a f g h zero b w = refl
@@ -55,50 +52,6 @@ statuses-are h w =
     = rw y at (from-more (statusAt h) (h .miles) (h .stages) 0) in
     rw e (rw z at (names-from (h .names) (h .fields + h .events) (statusAt h) (λ (s : Status). s .name) (λ x. refl) (h .stages + h .miles) 0 (omega arith)))
 
-pub events-are : (h : Heads) → h .fields + h .events ≤ length (h .names) → eventNames (headsOf h .events) ≡ map named (take (h .events) (drop (h .fields) (h .names)))
-unfolding headsOf eventNames
-events-are h w =
-    let z : h .fields + 0 ≡ h .fields = omega arith in
-    rw z at (names-from (h .names) (h .fields) (eventAt h) (λ (e : Event). e .name) (λ x. refl) (h .events) 0 (omega arith))
-
 pub stages-length : (h : Heads) → length (headsOf h .stages) ≡ h .stages
 unfolding headsOf
 stages-length h = length-map (from 0 (h .stages)) (statusAt h) ∙ from-length (h .stages) 0
-
--- what the event at a place carries
-unfoldable pub carriedAt : Heads → ℕ → List ℕ
-carriedAt h e = take (getD (h .carries) e 0) (drop (16 * e) (h .carried))
-
-from-at : {A : Type 0} (f : ℕ → A) (d : A) (n b e : ℕ) → e < n → getD (map f (from b n)) e d ≡ f (b + e)
-unfolding from
-from-at f d zero b e h = absurd (omega arith)
-from-at f d (suc n) b zero h = let z : b + 0 ≡ b = omega arith in rw z
-from-at f d (suc n) b (suc e) h = let z : suc b + e ≡ b + suc e = omega arith in rw z at (from-at f d n (suc b) e (omega arith))
-
-pub carried-are : (h : Heads) (e : ℕ) → e < h .events → carriedBy (headsOf h) e ≡ carriedAt h e
-unfolding carriedBy carriedAt headsOf
-carried-are h e l =
-    let z : 0 + e ≡ e = omega arith in
-    ap (λ (x : Event). x .carries) (from-at (eventAt h) (record { name = []; carries = [] }) (h .events) 0 e l) ∙ rw z
-
-module _ (h : Heads) (sized : Sized h) (e : ℕ) (one : e < h .events) where
-  pub carried-length : length (h .carried) ≡ 256 → length (carriedAt h e) ≡ getD (h .carries) e 0
-  unfolding carriedAt
-  carried-length w = length-take-le (getD (h .carries) e 0) (drop (16 * e) (h .carried)) (omega (arith, length-drop (16 * e) (h .carried), sized .few-carried e, sized .few-events))
-
-  module _ (i : ℕ) (more : i < getD (h .carries) e 0) where
-    pub carried-room : 16 * e + i < 256
-    carried-room = omega (arith, sized .few-carried e, sized .few-events)
-
-    pub carried-field : getD (h .carried) (16 * e + i) 0 < h .fields
-    carried-field = sized .fields-carried e i more
-
-    pub carried-cons : length (h .carried) ≡ 256 → drop i (carriedAt h e) ≡ getD (h .carried) (16 * e + i) 0 ∷ drop (i + 1) (carriedAt h e)
-    unfolding carriedAt
-    carried-cons w =
-        let z : i < length (carriedAt h e) = omega (arith, carried-length w) in
-        rw (add-one, drop-cons (carriedAt h e) i 0 z, getD-take (getD (h .carries) e 0) (drop (16 * e) (h .carried)) i 0 more, getD-drop (16 * e) (h .carried) i 0)
-
--- the name of a field
-pub field-at : (h : Heads) (f : ℕ) → f < h .fields → getD (headsOf h .fields) f [] ≡ named (getD (h .names) f 0)
-field-at h f l = rw (fields-are h, names-at (take (h .fields) (h .names)) f, getD-take (h .fields) (h .names) f 0 l)

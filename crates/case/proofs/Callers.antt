@@ -19,7 +19,8 @@ use Rattle.theory.specs.Readers.{refused-taken, taken-same, paper-read}
 use Rattle.theory.specs.Papers.{Papers, case-holds}
 use Rattle.theory.specs.Numbers.{case-tells}
 use Rattle.verdict.specs.Fits.{Fits}
-use Rattle.accepted.proofs.Callers.{accepted-fits, accepted-order}
+use Rattle.accepted.proofs.Callers.{accepted-fits, accepted-order, accepted-words}
+use Rattle.rules.specs.Answers.{allWords}
 use Rattle.tables.specs.Heads.{padded}
 use Rattle.case.specs.declared.CaseRead.{CaseRead}
 use Rattle.case.specs.Answers.{refusedCase, takenCase, asCase}
@@ -53,6 +54,10 @@ case-fits s c e k q = accepted-fits s (record { sheet = k .sheet; order = k .ord
 -- its testing order stands at the start of its array
 pub case-order : (s c e : List ℕ) (k : Case) → readCase s c e ≡ taken k → take (nodes (k .sheet)) (padded 64 0 (k .order)) ≡ k .order
 case-order s c e k q = accepted-order s (record { sheet = k .sheet; order = k .order }) (case-apart s c e k q .sheet)
+
+-- the words of its conditions fit their array
+pub case-words : (s c e : List ℕ) (k : Case) → readCase s c e ≡ taken k → length (allWords (k .sheet .rules)) ≤ 1024
+case-words s c e k q = accepted-words s (record { sheet = k .sheet; order = k .order }) (case-apart s c e k q .sheet)
 
 -- the card and the event line are not long
 pub case-short : (s c e : List ℕ) (k : Case) → readCase s c e ≡ taken k → (length c ≤ 1024) × (length e ≤ 512)

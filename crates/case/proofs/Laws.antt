@@ -20,10 +20,12 @@ use Rattle.theory.specs.Papers.{card-holds, event-holds}
 use Rattle.tables.specs.Heads.{Sized, headsOf}
 use Rattle.card.specs.declared.Card.{Card}
 use Rattle.card.specs.declared.CardRead.{CardRead}
-use Rattle.card.specs.declared.Happening.{Happening}
-use Rattle.card.specs.declared.EventRead.{EventRead}
-use Rattle.card.specs.Answers.{asCard, asCardRead, asHappening, asEventRead, valueCodes, noCard, noHappening}
-use Rattle.card.proofs.Callers.{card-taken, card-refused, event-taken, event-refused}
+use Rattle.event.specs.declared.Happening.{Happening}
+use Rattle.event.specs.declared.EventRead.{EventRead}
+use Rattle.card.specs.Answers.{asCard, asCardRead, valueCodes, noCard}
+use Rattle.event.specs.Answers.{asHappening, asEventRead, noHappening}
+use Rattle.card.proofs.Callers.{card-taken, card-refused}
+use Rattle.event.proofs.Callers.{event-taken, event-refused}
 use Rattle.accepted.specs.declared.Accepted.{Accepted}
 use Rattle.accepted.specs.Answers.{refusedSheet, takenSheet, asAccepted}
 use Rattle.accepted.proofs.Callers.{Taken, accept-read, accept-wrong, accept-sized, accept-heads}

@@ -6,7 +6,8 @@ use Rattle.meaning.specs.Step.{putIn}
 use Rattle.meaning.specs.Doors as D
 use Rattle.meaning.specs.Doors.{Case}
 use Rattle.accepted.specs.Answers.{refusedSheet, takenSheet}
-use Rattle.card.specs.Answers.{noCard, noHappening, asCard, asHappening, valueCodes}
+use Rattle.card.specs.Answers.{noCard, asCard, valueCodes}
+use Rattle.event.specs.Answers.{noHappening, asHappening}
 use Rattle.case.specs.declared.CaseRead.{CaseRead}
 use Rattle.case.specs.declared.Reply.{Reply}
 

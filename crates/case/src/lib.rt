@@ -4,7 +4,7 @@ ghost use Rattle.meaning.specs.Doors.{readCase};
 ghost use Rattle.case.specs.Answers.{refusedReply, refusedCase, asCase};
 use accepted::Accepted;
 use card::Card;
-use card::Happening;
+use event::Happening;
 
 // What the papers say, and the values after the event; or a refusal's number, not 0, its paper and its line.
 pub struct CaseRead {
@@ -79,7 +79,7 @@ pub fn read_case(sheet: &[u8], card: &[u8], event: &[u8]) -> CaseRead
     if read.number != 0 {
         return refused(read.number, 2, read.line);
     }
-    let told = card::read_event(heads, event);
+    let told = event::read_event(heads, event);
     if told.number != 0 {
         return refused(told.number, 3, told.line);
     }

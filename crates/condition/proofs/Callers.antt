@@ -12,20 +12,14 @@ use Rattle.meaning.specs.Reading.{Got, got, wrong}
 use Rattle.meaning.specs.Name.{Name}
 use Rattle.meaning.specs.Condition.{Comparison, Leaf, Cond, leavesC}
 use Rattle.meaning.specs.ReadCondition.{condition}
+use Rattle.theory.specs.Told.{Told, took}
+use Rattle.theory.specs.Conditions.{Good, told-condition}
 use Rattle.verdict.specs.Flat.{wordsC, words}
 use Rattle.condition.specs.Answers.{asCondition, stored}
 use Rattle.condition.specs.declared.Place.{Place}
 use Rattle.condition.specs.declared.CondRead.{CondRead}
 use Rattle.condition.specs.declared.CondRead.the-variants.{At, Refused}
-use Rattle.condition.proofs.Told.{Told}
-use Rattle.condition.proofs.Finds.{LeafIn, LeavesIn, Good, told-condition}
-use Rattle.condition.proofs.Kept.{words-count, took}
-
--- members of a list of leaves, each in its table
-leaf-in : (n m : ℕ) (xs : List Leaf) → LeavesIn n m xs → (x : Leaf) → In x xs → LeafIn n m x
-leaf-in n m [] h x i = absurd i
-leaf-in n m (y ∷ xs) h x (inl e) = rw e (h .0)
-leaf-in n m (y ∷ xs) h x (inr i) = leaf-in n m xs (h .1) x i
+use Rattle.condition.proofs.Kept.{words-count}
 
 -- n leaves are 2n - 1 words
 pub words-leaves : (c : Cond) → length (words c) + 1 ≡ 2 * length (leavesC c)
@@ -64,8 +58,8 @@ module _ (st fd : List Name) (t : List ℕ) (top leaves : ℕ) (r : CondRead) (i
             some = h .some;
             few = h .few;
             fits = λ g. omega (arith, words-leaves c);
-            statuses = λ x i. leaf-in (length st) (length fd) (leavesC c) (h .known) (Leaf.status x) i;
-            fields = λ x i. leaf-in (length st) (length fd) (leavesC c) (h .known) (Leaf.compare x) i;
+            statuses = λ x i. h .known (Leaf.status x) i;
+            fields = λ x i. h .known (Leaf.compare x) i;
             space = λ was. rw (e 0);
           })
 

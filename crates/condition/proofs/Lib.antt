@@ -1,10 +1,6 @@
 -- Laws of reading conditions: what each reader may find, its words, and the returns of the code's readers.
-pub mod Told
-pub mod Finds
 pub mod Kept
 pub mod Listed
-pub mod Leaves
 pub mod Steps
-pub mod Lists
 pub mod Items
 pub mod Callers

@@ -19,17 +19,17 @@ use Rattle.text.specs.Answers.{asBytes}
 use Rattle.text.specs.declared.Bytes.{Bytes}
 use Rattle.text.specs.declared.Bytes.the-variants as B
 use Rattle.text.proofs.Callers.{due-wrong, due-got, due-fits, due-length}
-use Rattle.verdict.specs.Flat.{bit, join, leafWord, wordsI}
+use Rattle.verdict.specs.Flat.{bit, join, wordsI}
+use Rattle.leaf.specs.declared.LeafRead.{LeafRead}
+use Rattle.leaf.specs.declared.LeafRead.the-variants as L
+use Rattle.leaf.specs.Answers.{asLeaf}
+use Rattle.leaf.proofs.Callers.{Leafed, leaf-wrong, leaf-got}
 use Rattle.condition.specs.Answers.{Ready}
-use Rattle.condition.specs.Parts.{asLeaf, leafItem, Gives, Within, further, closing, closedBy}
+use Rattle.condition.specs.Parts.{leafItems, Gives, Within, further, closing, closedBy}
 use Rattle.condition.specs.declared.Place.{Place}
 use Rattle.condition.specs.declared.CondRead.{CondRead}
 use Rattle.condition.specs.declared.CondRead.the-variants.{At, Refused}
-use Rattle.condition.specs.declared.LeafRead.{LeafRead}
-use Rattle.condition.specs.declared.LeafRead.the-variants as L
-use Rattle.condition.proofs.Told.{Told}
-use Rattle.condition.proofs.Finds.{LeafFine, told-leaf}
-use Rattle.condition.proofs.Kept.{took, gives-found, gives-refused}
+use Rattle.condition.proofs.Kept.{gives-found, gives-refused}
 
 pub stands-at : (k v s : List ℕ) (at : ℕ) (b : Bool) → v ≡ drop at s → b ≡ begins k v → b ≡ begins k (drop at s)
 stands-at k v s at b e h = h ∙ rw e
@@ -81,39 +81,22 @@ pub ruleset closes = (group-fits, group-open, group-good, group-last)
 
 -- a leaf's word
 module _ (neg : Bool) (st fd : List ℕ) (leaves top : ℕ) (s was : List ℕ) (r : LeafRead) (is : r ≡ asLeaf neg s (readLeaf (map named st) (map named fd) leaves 0 s)) where
-  pub leaf-refused : (k : ℕ) → r ≡ L.Refused k → Gives (wordsI neg) leavesI s top leaves (leafItem (map named st) (map named fd) leaves 0 s) (Refused k) was was
-  leaf-refused k told = go (told-leaf (map named st) (map named fd) leaves s)
-    where
-      go : Told (LeafFine (map named st) (map named fd) leaves) (readLeaf (map named st) (map named fd) leaves) s → Gives (wordsI neg) leavesI s top leaves (leafItem (map named st) (map named fd) leaves 0 s) (Refused k) was was
-      go (Told.found x n h g e) = let q : r ≡ L.Word (leafWord neg x) (length s - length (drop n s)) = is ∙ rw (e 0) in let z : _≡_ {A = ℕ} 0 1 = cc in absurd (omega arith)
-      go (Told.faulty c e) =
-          let q : r ≡ L.Refused c = is ∙ rw (e 0) in
-          let z : c ≡ k = cc in
-          gives-refused (λ i. Unit {0}) (wordsI neg) leavesI (leafItem (map named st) (map named fd) leaves) s top leaves was was k (rw (e 0, z)) refl
+  pub leaf-refused : (k : ℕ) → r ≡ L.Refused k → Gives (leafItems (map named st) (map named fd) neg) s top leaves (Refused k) was was
+  unfolding leafItems
+  leaf-refused k told = gives-refused (leafItems (map named st) (map named fd) neg) s top leaves was was k (rw (leaf-wrong neg (map named st) (map named fd) leaves s r is k told 0)) refl
 
   module _ (w n : ℕ) (told : r ≡ L.Word w n) where
-    leaf-told : (x : Leaf) × (readLeaf (map named st) (map named fd) leaves 0 s ≡ got x 0 (drop n s)) × (n ≤ length s) × (w ≡ leafWord neg x) × (leaves < 512)
-    leaf-told = go (told-leaf (map named st) (map named fd) leaves s)
-      where
-        go : Told (LeafFine (map named st) (map named fd) leaves) (readLeaf (map named st) (map named fd) leaves) s
-            → (x : Leaf) × (readLeaf (map named st) (map named fd) leaves 0 s ≡ got x 0 (drop n s)) × (n ≤ length s) × (w ≡ leafWord neg x) × (leaves < 512)
-        go (Told.faulty c e) = let q : r ≡ L.Refused c = is ∙ rw (e 0) in let z : _≡_ {A = ℕ} 0 1 = cc in absurd (omega arith)
-        go (Told.found x m h g e) =
-            let q : r ≡ L.Word (leafWord neg x) m = is ∙ rw (e 0, took s m g) in
-            let z : m ≡ n = cc in
-            let y : w ≡ leafWord neg x = cc in
-            (x, rw (← z) (e 0), rw (← z) g, y, h .0)
+    leafed : Leafed neg (map named st) (map named fd) leaves s w n
+    leafed = leaf-got neg (map named st) (map named fd) leaves s r is w n told
 
     pub leaf-place : Ready st fd was top leaves → top < length was
-    leaf-place p = let (x, e, h, y, g) = leaf-told in omega arith
+    leaf-place p = omega (arith, leafed .few, p .few-words, p .room)
 
-    pub leaf-stored : (t l : ℕ) → t ≡ top + 1 → l ≡ leaves + 1
-        → Gives (wordsI neg) leavesI s top leaves (leafItem (map named st) (map named fd) leaves 0 s) (At (record { bytes = n; top = t; leaves = l })) was (set was top w)
-    unfolding wordsI leavesI
+    pub leaf-stored : (t l : ℕ) → t ≡ top + 1 → l ≡ leaves + 1 → Gives (leafItems (map named st) (map named fd) neg) s top leaves (At (record { bytes = n; top = t; leaves = l })) was (set was top w)
+    unfolding leafItems wordsI leavesI
     leaf-stored t l et el =
-        let (x, e, h, y, g) = leaf-told in
-        gives-found (λ i. Unit {0}) (wordsI neg) leavesI (leafItem (map named st) (map named fd) leaves) s top leaves was (set was top w) (Item.leaf x) n h (rw e)
-        (record { bytes = n; top = t; leaves = l }) refl et el (ap (λ (a : ℕ). set was top a) y)
+        gives-found (leafItems (map named st) (map named fd) neg) s top leaves was (set was top w) (Item.leaf (leafed .value)) n (leafed .within) (rw (leafed .reads 0))
+        (record { bytes = n; top = t; leaves = l }) refl et el (ap (λ (a : ℕ). set was top a) (leafed .word))
 
 pub ruleset storing = (leaf-refused, leaf-place, leaf-stored)
 

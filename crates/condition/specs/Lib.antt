@@ -1,3 +1,3 @@
--- The flat form of conditions, what the code answers for what the meaning reads, and what its private readers answer:
+-- What the code answers for what the meaning reads, and what its private readers answer:
 pub mod Answers
 pub mod Parts

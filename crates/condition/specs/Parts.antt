@@ -1,84 +1,55 @@
--- What the private readers answer: of a leaf its word, of a part of a condition that its words stand from `top` on.
+-- What the private readers answer: of a part of a condition that its words stand from `top` on.
 use Prim.Native.Nat.{ℕ, _+_, _-_, _≤_}
 use mathlib.Core.Path.{_≡_}
-use mathlib.Core.Bool.{Bool}
+use mathlib.Core.Bool.{Bool, false}
 use mathlib.Core.List.{List}
-use mathlib.Core.Option.{Option, none, some}
 use lib.ListN.{length, take, drop}
 use lib.Seq.{sets}
 use Rattle.meaning.specs.Text.{text}
 use Rattle.meaning.specs.Refusal.{COND}
 use Rattle.meaning.specs.Reading.{Got, got, wrong, Reader, _>>=_, give, due}
 use Rattle.meaning.specs.Name.{Name}
-use Rattle.meaning.specs.Number.{number}
-use Rattle.meaning.specs.Condition.{Operator, below, atMost, equal, atLeast, above, Leaf, Item}
-use Rattle.meaning.specs.ReadCondition.{operator, readLeaf}
-use Rattle.text.specs.declared.Found.{Found}
-use Rattle.text.specs.declared.Found.the-variants as F
-use Rattle.verdict.specs.Flat.{leafWord}
+use Rattle.meaning.specs.Condition.{Leaf, Cond, And, Item, leavesC, leavesA, leavesI}
+use Rattle.meaning.specs.ReadCondition.{readLeaf, readAnd, readCond, readItem}
+use Rattle.verdict.specs.Flat.{wordsC, wordsA, wordsI}
 use Rattle.condition.specs.declared.Place.{Place}
 use Rattle.condition.specs.declared.CondRead.{CondRead}
 use Rattle.condition.specs.declared.CondRead.the-variants.{At, Refused}
-use Rattle.condition.specs.declared.Sign.{Sign}
-use Rattle.condition.specs.declared.Sign.the-variants as S
-use Rattle.condition.specs.declared.SignRead.{SignRead}
-use Rattle.condition.specs.declared.SignRead.the-variants as O
-use Rattle.condition.specs.declared.LeafRead.{LeafRead}
-use Rattle.condition.specs.declared.LeafRead.the-variants as L
 
--- an operator, read at the start of s: its sign, and the bytes that it took
-abbrev pub signOf : Operator → Sign
-signOf below = S.Below
-signOf atMost = S.AtMost
-signOf equal = S.Equal
-signOf atLeast = S.AtLeast
-signOf above = S.Above
+-- parts of one kind: their words and leaves, and their reader behind so many leaves
+pub record Kind : Type 1 where
+  pub T : Type 0
+  pub words : T → List ℕ
+  pub leaves : T → List Leaf
+  pub read : ℕ → Reader T
 
-abbrev pub operatorOf : Sign → Operator
-operatorOf S.Below = below
-operatorOf S.AtMost = atMost
-operatorOf S.Equal = equal
-operatorOf S.AtLeast = atLeast
-operatorOf S.Above = above
+-- the four kinds, negated or not; d more nots and groups may stand around each other
+module _ (st fd : List Name) (neg : Bool) where
+  unfoldable pub leafItems : Kind
+  leafItems = record { T = Item; words = wordsI neg; leaves = leavesI; read = λ l. readLeaf st fd l >>= λ x. give (Item.leaf x) }
 
-abbrev pub asSign : List ℕ → Got Operator → SignRead
-asSign s (got o l t) = O.Sign (signOf o) (length s - length t)
-asSign s (wrong n l) = O.Refused n
+  unfoldable pub items : ℕ → Kind
+  items d = record { T = Item; words = wordsI neg; leaves = leavesI; read = readItem st fd d }
 
--- a leaf of s, negated or not: its word, and the bytes from the start of s
-abbrev pub asLeaf : Bool → List ℕ → Got Leaf → LeafRead
-asLeaf neg s (got x l t) = L.Word (leafWord neg x) (length s - length t)
-asLeaf neg s (wrong n l) = L.Refused n
+  unfoldable pub andLists : ℕ → Kind
+  andLists d = record { T = And; words = wordsA neg false; leaves = leavesA; read = readAnd (readItem st fd d) 513 }
 
--- what stands behind a field's name
-abbrev pub comparison : ℕ → Reader Leaf
-comparison f = do
-  o ← operator
-  n ← number
-  give (Leaf.compare (record { field = f; operator = o; number = n .at }))
+  unfoldable pub conditions : ℕ → Kind
+  conditions d = record { T = Cond; words = wordsC neg false; leaves = leavesC; read = readCond (readItem st fd d) 513 }
 
--- a place in a table, if any
-abbrev pub placeIn : Found → Option ℕ
-placeIn (F.At i) = some i
-placeIn F.Nothing = none
-
--- a leaf as an item
-abbrev pub leafItem : List Name → List Name → ℕ → Reader Item
-leafItem statuses fields l = readLeaf statuses fields l >>= λ x. give (Item.leaf x)
-
--- a part read at the start of s, behind `top` words and `leaves` leaves, by its words and its leaves
-abbrev pub asPart : {T : Type 0} → (T → List ℕ) → (T → List Leaf) → List ℕ → ℕ → ℕ → Got T → CondRead
-asPart ws ls s top leaves (got t l u) = At (record { bytes = length s - length u; top = top + length (ws t); leaves = leaves + length (ls t) })
-asPart ws ls s top leaves (wrong n l) = Refused n
+-- a part read at the start of s, behind `top` words and `leaves` leaves
+abbrev pub asPart : (K : Kind) → List ℕ → ℕ → ℕ → Got (K .T) → CondRead
+asPart K s top leaves (got t l u) = At (record { bytes = length s - length u; top = top + length (K .words t); leaves = leaves + length (K .leaves t) })
+asPart K s top leaves (wrong n l) = Refused n
 
 -- the lent words: those of the part from `top` on; where it is refused, those below `top` are as they were
-abbrev pub Left : {T : Type 0} → (T → List ℕ) → List ℕ → List ℕ → ℕ → Got T → Type 0
-Left ws was is top (got t l u) = is ≡ sets was top (ws t)
-Left ws was is top (wrong n l) = take top is ≡ take top was
+abbrev pub Left : (K : Kind) → List ℕ → List ℕ → ℕ → Got (K .T) → Type 0
+Left K was is top (got t l u) = is ≡ sets was top (K .words t)
+Left K was is top (wrong n l) = take top is ≡ take top was
 
-pub record Gives {T : Type 0} (ws : T → List ℕ) (ls : T → List Leaf) (s : List ℕ) (top leaves : ℕ) (g : Got T) (r : CondRead) (was is : List ℕ) : Type 0 where
-  pub answer : r ≡ asPart ws ls s top leaves g
-  pub space : Left ws was is top g
+pub record Gives (K : Kind) (s : List ℕ) (top leaves : ℕ) (r : CondRead) (was is : List ℕ) : Type 0 where
+  pub answer : r ≡ asPart K s top leaves (K .read leaves 0 s)
+  pub space : Left K was is top (K .read leaves 0 s)
 
 -- what was read behind the first n bytes of s: it lies in s, and it is told from the start of s
 abbrev pub Within : List ℕ → ℕ → CondRead → Type 0

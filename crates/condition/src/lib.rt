@@ -1,23 +1,17 @@
 // Reading a condition into its flat form: words in postfix order in a lent array.
 ghost use mathlib.Core.Path.{_≡_};
-ghost use mathlib.Core.Bool.{false};
 ghost use mathlib.Core.List.{_++_, map};
-ghost use mathlib.Core.Option.{none};
 ghost use Prim.Native.Nat.{_+_, _-_, _≤_, _<_};
 ghost use lib.ListN.{length, take, drop, replicate};
 ghost use lib.Seq.{sets};
 ghost use Rattle.meaning.specs.Text.{text, begins};
-ghost use Rattle.meaning.specs.Condition.{leavesC, leavesA, leavesI};
-ghost use Rattle.meaning.specs.ReadCondition.{operator, named as namedLeaf, readLeaf, readAnd, readCond, readItem, condition};
+ghost use Rattle.meaning.specs.ReadCondition.{condition};
 ghost use Rattle.text.specs.Packed.{named};
-ghost use Rattle.text.specs.Answers.{foundIn};
-ghost use Rattle.verdict.specs.Flat.{bit, word, comparisonWord, join, wordsC, wordsA, wordsI};
+ghost use Rattle.verdict.specs.Flat.{bit, join};
 ghost use Rattle.condition.specs.Answers.{Ready, asCondition, stored};
-ghost use Rattle.condition.specs.Parts.{operatorOf, asSign, asLeaf, comparison, placeIn, leafItem, Gives, Within, further, closedBy};
-use number::NumberPiece;
+ghost use Rattle.condition.specs.Parts.{leafItems, items, andLists, conditions, Gives, Within, further, closedBy};
+use leaf::LeafRead;
 use text::Bytes;
-use text::Found;
-use text::NamePiece;
 
 // How far a condition was read: its bytes, and the words and leaves that there are behind it.
 pub struct Place {
@@ -31,154 +25,6 @@ pub enum CondRead {
     Refused(u8),
 }
 
-// The sign of a comparison.
-enum Sign {
-    Below,
-    AtMost,
-    Equal,
-    AtLeast,
-    Above,
-}
-
-// A sign, and how many bytes it took; or the refusal's number.
-enum SignRead {
-    Sign(Sign, usize),
-    Refused(u8),
-}
-
-// A leaf: its word, and how many bytes it took; or the refusal's number.
-enum LeafRead {
-    Word(u64, usize),
-    Refused(u8),
-}
-
-// How many leaves all conditions of a sheet may have together.
-const LEAVES: usize = 512;
-
-fn bit_of(b: bool) -> u64
-    ensures { λ r. ⌜ (r ≡ bit b) × (r ≤ 1) ⌝ }
-{
-    if b { 1 } else { 0 }
-}
-
-fn word_of(kind: u64, place: u64, number: u64) -> u64
-    requires { ⌜ (kind < 8) × (place < 32) × (number < 4294967296) ⌝ }
-    ensures { λ r. ⌜ r ≡ word kind place number ⌝ }
-{
-    kind + 8 * (place + 32 * number)
-}
-
-// Five signs are two kinds of words: below 4, equal 6, and one more where the leaf is negated.
-fn comparison_word(neg: bool, field: u64, sign: Sign, number: u64) -> u64
-    requires { ⌜ (field < 32) × (number ≤ 2000000000) ⌝ }
-    ensures { λ r. ⌜ r ≡ comparisonWord neg field (operatorOf sign) number ⌝ }
-{
-    match sign {
-        Sign::Below => word_of(4 + bit_of(neg), field, number + 1),
-        Sign::AtMost => word_of(4 + bit_of(neg), field, number + 2),
-        Sign::Equal => word_of(6 + bit_of(neg), field, number + 1),
-        Sign::AtLeast => word_of(4 + bit_of(!neg), field, number + 1),
-        Sign::Above => word_of(4 + bit_of(!neg), field, number + 2),
-    }
-}
-
-// The longest sign at the start of `s`.
-fn sign_piece(s: &[u8]) -> SignRead
-    ensures { λ r. ⌜ r ≡ asSign (now (s .entry)) (operator 0 (now (s .entry))) ⌝ }
-{
-    if s.len() == 0 {
-        return SignRead::Refused(2);
-    }
-    if text::starts(s, b"<=") {
-        return SignRead::Sign(Sign::AtMost, 2);
-    }
-    if text::starts(s, b">=") {
-        return SignRead::Sign(Sign::AtLeast, 2);
-    }
-    if text::starts(s, b"<") {
-        return SignRead::Sign(Sign::Below, 1);
-    }
-    if text::starts(s, b"=") {
-        return SignRead::Sign(Sign::Equal, 1);
-    }
-    if text::starts(s, b">") {
-        return SignRead::Sign(Sign::Above, 1);
-    }
-    SignRead::Refused(5)
-}
-
-// What stands behind the name of a field that ends at `at`: a sign and a number.
-fn comparison(s: &[u8], at: usize, field: usize, neg: bool) -> LeafRead
-    requires { ⌜ (at ≤ length (now s)) × (field < 32) ⌝ }
-    ensures { λ r. ⌜ r ≡ asLeaf neg (now (s .entry)) (comparison field 0 (drop at (now (s .entry)))) ⌝ }
-{
-    let o = sign_piece(text::rest(s, at));
-    match o {
-        SignRead::Refused(k) => LeafRead::Refused(k),
-        SignRead::Sign(c, k) => {
-            let end = at + k;
-            let p = number::number_piece(text::rest(s, end));
-            match p {
-                NumberPiece::Refused(j) => LeafRead::Refused(j),
-                NumberPiece::Number(v, n) => LeafRead::Word(
-                    comparison_word(neg, field as u64, c, v),
-                    end + n,
-                ),
-            }
-        }
-    }
-}
-
-// The leaf whose name `w`, which is no status, ends at `at`.
-fn field_leaf(s: &[u8], at: usize, w: u64, fields: &[u64], leaves: usize, neg: bool) -> LeafRead
-    requires { ⌜ (at ≤ length (now s)) × (length (now fields) ≤ 16) ⌝ }
-    ensures { λ r. ⌜ r ≡ asLeaf neg (now (s .entry)) (namedLeaf leaves none (placeIn (foundIn w (now (fields .entry)))) 0 (drop at (now (s .entry)))) ⌝ }
-{
-    let f = text::find(fields, 0, fields.len(), w);
-    let Found::At(i) = f else {
-        return LeafRead::Refused(3);
-    };
-    if LEAVES <= leaves {
-        return LeafRead::Refused(6);
-    }
-    comparison(s, at, i, neg)
-}
-
-// The leaf whose name `w` ends at `at`. Whether it is one too many is told behind its name.
-fn known_leaf(
-    s: &[u8],
-    at: usize,
-    w: u64,
-    statuses: &[u64],
-    fields: &[u64],
-    leaves: usize,
-    neg: bool,
-) -> LeafRead
-    requires { ⌜ (at ≤ length (now s)) × (length (now statuses) ≤ 32) × (length (now fields) ≤ 16) ⌝ }
-    ensures { λ r. ⌜ r ≡ asLeaf neg (now (s .entry)) (namedLeaf leaves (placeIn (foundIn w (now (statuses .entry)))) (placeIn (foundIn w (now (fields .entry)))) 0 (drop at (now (s .entry)))) ⌝ }
-{
-    let x = text::find(statuses, 0, statuses.len(), w);
-    let Found::At(i) = x else {
-        return field_leaf(s, at, w, fields, leaves, neg);
-    };
-    if LEAVES <= leaves {
-        return LeafRead::Refused(6);
-    }
-    LeafRead::Word(word_of(2 + bit_of(neg), i as u64, 0), at)
-}
-
-// The leaf at the start of `s`.
-fn leaf(s: &[u8], statuses: &[u64], fields: &[u64], leaves: usize, neg: bool) -> LeafRead
-    requires { ⌜ (length (now statuses) ≤ 32) × (length (now fields) ≤ 16) ⌝ }
-    ensures { λ r. ⌜ r ≡ asLeaf neg (now (s .entry)) (readLeaf (map named (now (statuses .entry))) (map named (now (fields .entry))) leaves 0 (now (s .entry))) ⌝ }
-{
-    let p = text::name_piece(s);
-    match p {
-        NamePiece::Refused(k) => LeafRead::Refused(k),
-        NamePiece::Name(w, n) => known_leaf(s, n, w, statuses, fields, leaves, neg),
-    }
-}
-
 // The leaf at the start of `s` as an item: its word is stored.
 fn leaf_item(
     s: &[u8],
@@ -190,9 +36,9 @@ fn leaf_item(
     neg: bool,
 ) -> CondRead
     requires { ⌜ Ready (now statuses) (now fields) (now words) top leaves ⌝ }
-    ensures { λ r. ⌜ Gives (wordsI neg) leavesI (now (s .entry)) top leaves (leafItem (map named (now (statuses .entry))) (map named (now (fields .entry))) leaves 0 (now (s .entry))) r (now (words .entry)) (now (words .exit)) ⌝ }
+    ensures { λ r. ⌜ Gives (leafItems (map named (now (statuses .entry))) (map named (now (fields .entry))) neg) (now (s .entry)) top leaves r (now (words .entry)) (now (words .exit)) ⌝ }
 {
-    let r = leaf(s, statuses, fields, leaves, neg);
+    let r = leaf::read_leaf(s, statuses, fields, leaves, neg);
     match r {
         LeafRead::Refused(k) => CondRead::Refused(k),
         LeafRead::Word(w, n) => {
@@ -224,7 +70,7 @@ fn join_word(words: &mut [u64], top: usize, joined: bool, or: bool) -> usize
     ensures { λ r. ⌜ (now (words .exit) ≡ sets (now (words .entry)) top (join joined (bit or))) × (r ≡ top + length (join joined (bit or))) ⌝ }
 {
     if joined {
-        words[top] = bit_of(or);
+        words[top] = leaf::bit_of(or);
         top + 1
     } else {
         top
@@ -278,7 +124,7 @@ fn condition(
     neg: bool,
 ) -> CondRead
     requires { ⌜ Ready (now statuses) (now fields) (now words) top leaves ⌝ }
-    ensures { λ r. ⌜ Gives (wordsC neg false) leavesC (now (s .entry)) top leaves (readCond (readItem (map named (now (statuses .entry))) (map named (now (fields .entry))) nest) 513 leaves 0 (now (s .entry))) r (now (words .entry)) (now (words .exit)) ⌝ }
+    ensures { λ r. ⌜ Gives (conditions (map named (now (statuses .entry))) (map named (now (fields .entry))) neg nest) (now (s .entry)) top leaves r (now (words .entry)) (now (words .exit)) ⌝ }
 {
     let mut at = 0;
     let mut next = top;
@@ -317,7 +163,7 @@ fn and_list(
     neg: bool,
 ) -> CondRead
     requires { ⌜ Ready (now statuses) (now fields) (now words) top leaves ⌝ }
-    ensures { λ r. ⌜ Gives (wordsA neg false) leavesA (now (s .entry)) top leaves (readAnd (readItem (map named (now (statuses .entry))) (map named (now (fields .entry))) nest) 513 leaves 0 (now (s .entry))) r (now (words .entry)) (now (words .exit)) ⌝ }
+    ensures { λ r. ⌜ Gives (andLists (map named (now (statuses .entry))) (map named (now (fields .entry))) neg nest) (now (s .entry)) top leaves r (now (words .entry)) (now (words .exit)) ⌝ }
 {
     let mut at = 0;
     let mut next = top;
@@ -356,7 +202,7 @@ fn item(
     neg: bool,
 ) -> CondRead
     requires { ⌜ Ready (now statuses) (now fields) (now words) top leaves ⌝ }
-    ensures { λ r. ⌜ Gives (wordsI neg) leavesI (now (s .entry)) top leaves (readItem (map named (now (statuses .entry))) (map named (now (fields .entry))) nest leaves 0 (now (s .entry))) r (now (words .entry)) (now (words .exit)) ⌝ }
+    ensures { λ r. ⌜ Gives (items (map named (now (statuses .entry))) (map named (now (fields .entry))) neg nest) (now (s .entry)) top leaves r (now (words .entry)) (now (words .exit)) ⌝ }
 {
     if s.len() == 0 {
         return CondRead::Refused(2);

@@ -25,7 +25,8 @@ use Rattle.verdict.proofs.Leaves.{words-leaves}
 use Rattle.rules.specs.declared.Rules.{Rules}
 use Rattle.trigger.specs.Answers.{isPlus, asTrigger}
 use Rattle.rules.specs.Answers.{nodeOf, wordsOf, asRule, asRows, allWords, asRules, noRule}
-use Rattle.rules.proofs.Callers.{node-same}
+use Rattle.rules.proofs.Callers.{node-same, rows-taken}
+use Rattle.tables.proofs.Tables.{under-over}
 use Rattle.order.specs.declared.Sorting.{Sorting}
 use Rattle.order.specs.Answers.{asSorting}
 use Rattle.order.proofs.Callers.{sort-none, sort-some, sort-below}
@@ -193,23 +194,6 @@ module _ (sh : Sheet) (well : Well sh) (ws under : List ℕ) (over : (x : ℕ) �
 
 -- THE TABLES OF A SHEET
 
-rows-long : (top : ℕ) (rs : List M.Rule) → length (asRows top rs) ≡ length rs
-unfolding asRows
-rows-long top [] = refl
-rows-long top (r ∷ rs) = ap suc (rows-long (top + length (wordsOf (r .condition))) rs)
-
--- what a status is under, in its table; behind the statuses there are only zeros
-under-at : (ss : List Status) (n x : ℕ) → getD (map (λ s. underCode (s .under)) ss ++ replicate n 0) x 0 ≡ underCode (getD ss x (record { name = []; under = none }) .under)
-under-at [] zero x = refl
-under-at [] (suc n) zero = refl
-under-at [] (suc n) (suc x) = under-at [] n x
-under-at (s ∷ ss) n zero = refl
-under-at (s ∷ ss) n (suc x) = under-at ss n x
-
-pub under-over : (sh : Sheet) (x : ℕ) → getD (padded 32 0 (map (λ s. underCode (s .under)) (statuses sh))) x 0 ≡ underCode (stageOver sh x)
-unfolding padded stageOver
-under-over sh x = under-at (statuses sh) (32 - length (map (λ s. underCode (s .under)) (statuses sh))) x
-
 -- the table of its rules, with its words at the start of any, and the table of what its statuses are under
 module _ (sh : Sheet) (well : Well sh) (rules : Rules) (ws under : List ℕ) (stages : ℕ)
     (rules-are : rules ≡ asRules (sh .rules)) (under-is : under ≡ padded 32 0 (map (λ s. underCode (s .under)) (statuses sh))) (stages-are : stages ≡ length (sh .stages)) where
@@ -218,7 +202,7 @@ module _ (sh : Sheet) (well : Well sh) (rules : Rules) (ws under : List ℕ) (st
   unfolding tableInto asRules padded predecessors rulesFor allRules
   words-into rest words-are k =
       let rows : take (rules .count) (rules .rows) ≡ asRows 0 (sh .rules) =
-      ap (λ t. take (t .count) (t .rows)) rules-are ∙ take-at (asRows 0 (sh .rules)) (replicate (128 - length (asRows 0 (sh .rules))) noRule) (length (sh .rules)) (rows-long 0 (sh .rules)) in
+      ap (λ t. take (t .count) (t .rows)) rules-are ∙ rows-taken (sh .rules) in
       ap₂ (λ x y. x ++ y)
       (ap (λ rs. joined (ruleNodes ws under) (keep (λ r. eqb (nodeOf r) k) rs)) rows ∙ rows-same sh well ws under over k 0 (sh .rules) rest (well .rules) words-are)
       (ap (λ n. closingNodes under n k) stages-are ∙ closings-same sh well ws under over k)

@@ -2,9 +2,9 @@
 use Prim.Native.Nat.{ℕ, suc, _+_, _-_, _^_, _≤_, _<_}
 use mathlib.Core.Path.{_≡_, sym, _∙_, ap, ap₂}
 use mathlib.Core.Bool.{Bool, true, false, cond}
-use mathlib.Core.List.{List}
+use mathlib.Core.List.{List, _++_}
 use native.Mathlib.Omega.{arith}
-use lib.ListN.{length, drop, length-drop}
+use lib.ListN.{length, drop, length-drop, length-append}
 use lib.Seq.{drop-drop, length-take-le}
 use mir.Val.{Fits}
 use mir.Syntax.{w64}
@@ -14,6 +14,11 @@ use Rattle.meaning.specs.Reading.{got, wrong, Reader, after, stands, due, oneOf
 use Rattle.meaning.specs.Name.{Name, dueName}
 use Rattle.meaning.specs.Number.{Entry, entry}
 use Rattle.meaning.specs.Card.{fieldEntry, marks, statusMark, ended}
+use Rattle.theory.specs.Built.{bind-built, line-fault, due-built}
+use Rattle.theory.specs.BuiltPapers.{entry-line-built}
+use Rattle.theory.specs.Spelling.{bind-spells, behind-spells, due-spells}
+use Rattle.theory.specs.EventText.{field-spells}
+use Rattle.theory.specs.Told.{took}
 use Rattle.text.specs.declared.Bytes.{Bytes}
 use Rattle.text.specs.declared.Bytes.the-variants as B
 use Rattle.text.specs.Answers.{asBytes}
@@ -27,10 +32,7 @@ use Rattle.lines.specs.declared.ValuePiece.the-variants as VP
 use Rattle.lines.specs.declared.MarkPiece.{MarkPiece}
 use Rattle.lines.specs.declared.MarkPiece.the-variants as M
 use Rattle.lines.specs.Answers.{bytesFault, entryFault, keyed, spaced, caseLine, asValue, asMark}
-use Rattle.lines.proofs.Told.{Told, here, Bytewise, told-due, told-name, told-keyed, Shown, field-keyed, status-keyed, told-field, Any, told-mark, told-line, told-ended, told-weaker, told-after}
-
-pub taken-length : (t : List ℕ) (n : ℕ) → n ≤ length t → length t - length (drop n t) ≡ n
-taken-length t n h = simp length-drop (omega arith)
+use Rattle.lines.proofs.Told.{Told, here, Bytewise, told-due, told-name, told-keyed, Shown, field-keyed, status-keyed, told-field, Any, told-mark, told-line, told-ended, told-weaker, told-inline}
 
 -- FIXED TEXTS
 
@@ -44,7 +46,7 @@ pub record Took (m : ℕ → ℕ) (w : ℕ) (r : Reader (Unit {0})) (t : List �
 module _ (m : ℕ → ℕ) (w : ℕ) (r : Reader (Unit {0})) (t : List ℕ) (p : Bytes) (is : p ≡ asBytes t (r 0 t)) where
   pub bytes-took : Told m (Bytewise w) r t → (n : ℕ) → p ≡ B.Read n → Took m w r t n
   bytes-took (Told.takes u i e h q) n o =
-      let z : asBytes t (r 0 t) ≡ B.Read i = rw (q 0) (ap (λ j. B.Read j) (taken-length t i h)) in
+      let z : asBytes t (r 0 t) ≡ B.Read i = rw (q 0) (ap (λ j. B.Read j) (took t i h)) in
       let y : n ≡ i = cc in
       rw y (record { size = e; within = h; is = q })
   bytes-took (Told.keeps k q) n o =
@@ -54,7 +56,7 @@ module _ (m : ℕ → ℕ) (w : ℕ) (r : Reader (Unit {0})) (t : List ℕ) (p :
 
   pub bytes-kept : Told m (Bytewise w) r t → (k : ℕ) → p ≡ B.Refused k → (l : ℕ) → r l t ≡ wrong k l
   bytes-kept (Told.takes u i e h q) k o l =
-      let z : asBytes t (r 0 t) ≡ B.Read i = rw (q 0) (ap (λ j. B.Read j) (taken-length t i h)) in
+      let z : asBytes t (r 0 t) ≡ B.Read i = rw (q 0) (ap (λ j. B.Read j) (took t i h)) in
       let y : _≡_ {A = ℕ} 0 1 = cc in
       absurd (omega arith)
   bytes-kept (Told.keeps j q) k o l =
@@ -64,7 +66,7 @@ module _ (m : ℕ → ℕ) (w : ℕ) (r : Reader (Unit {0})) (t : List ℕ) (p :
 
 -- and the answer that a reader with known bytes has
 took-bytes : (m : ℕ → ℕ) (r : Reader (Unit {0})) (t : List ℕ) (n : ℕ) → n ≤ length t → r 0 t ≡ got tt (m 0) (drop n t) → B.Read n ≡ asBytes t (r 0 t)
-took-bytes m r t n h e = rw e (ap (λ j. B.Read j) (sym (taken-length t n h)))
+took-bytes m r t n h e = rw e (ap (λ j. B.Read j) (sym (took t n h)))
 
 kept-bytes : (r : Reader (Unit {0})) (t : List ℕ) (k : ℕ) → r 0 t ≡ wrong k 0 → B.Refused k ≡ asBytes t (r 0 t)
 kept-bytes r t k e = rw e
@@ -259,12 +261,12 @@ pub ruleset field-lining = (line-value, line-room, line-unended, line-read)
 module _ (t : List ℕ) (a : Bool) (yes : a ≡ begins (text "yes") t) where
   pub word-yes : a ≡ true → M.Mark 2 3 ≡ asMark t (oneOf LINE marks 0 t)
   unfolding oneOf stands
-  word-yes e = rw (← yes, e) (ap (λ n. M.Mark 2 n) (sym (taken-length t 3 (begins-fits (text "yes") t (sym yes ∙ e)))))
+  word-yes e = rw (← yes, e) (ap (λ n. M.Mark 2 n) (sym (took t 3 (begins-fits (text "yes") t (sym yes ∙ e)))))
 
   module _ (e : a ≡ false) (b : Bool) (no : b ≡ begins (text "no") t) where
     pub word-no : b ≡ true → M.Mark 0 2 ≡ asMark t (oneOf LINE marks 0 t)
     unfolding oneOf stands
-    word-no f = rw (← yes, e, ← no, f) (ap (λ n. M.Mark 0 n) (sym (taken-length t 2 (begins-fits (text "no") t (sym no ∙ f)))))
+    word-no f = rw (← yes, e, ← no, f) (ap (λ n. M.Mark 0 n) (sym (took t 2 (begins-fits (text "no") t (sym no ∙ f)))))
 
     pub word-none : b ≡ false → M.Refused 2 ≡ asMark t (oneOf LINE marks 0 t)
     unfolding oneOf stands
@@ -284,7 +286,7 @@ pub record Marked (m : ℕ → ℕ) (r : Reader Bool) (t : List ℕ) (b n : ℕ)
 module _ (m : ℕ → ℕ) (r : Reader Bool) (t : List ℕ) (p : MarkPiece) (is : p ≡ asMark t (r 0 t)) where
   pub mark-took : Told m Any r t → (b n : ℕ) → p ≡ M.Mark b n → Marked m r t b n
   mark-took (Told.takes a i h w q) b n z =
-      let y : asMark t (r 0 t) ≡ M.Mark (cond a 2 0) i = rw (q 0) (ap (λ j. M.Mark (cond a 2 0) j) (taken-length t i w)) in
+      let y : asMark t (r 0 t) ≡ M.Mark (cond a 2 0) i = rw (q 0) (ap (λ j. M.Mark (cond a 2 0) j) (took t i w)) in
       let x : b ≡ cond a 2 0 = cc in
       let f : n ≡ i = cc in
       record { answer = a; mark = x; within = rw f w; is = rw f q }
@@ -350,7 +352,7 @@ module _ (d : Name) (t : List ℕ) (p : Bytes) (name : p ≡ asBytes t (keyed d 
 
           pub mark-read : (h : ℕ) → h ≡ j + i → M.Mark b h ≡ asMark t (ended (statusMark d) 0 t)
           mark-read h z =
-              rw (mark-last, closed .is 0, rest-2, drop-drop i j t, z) (ap₂ (λ a c. M.Mark a c) (marked .mark) (sym (taken-length t (j + i) mark-fits)))
+              rw (mark-last, closed .is 0, rest-2, drop-drop i j t, z) (ap₂ (λ a c. M.Mark a c) (marked .mark) (sym (took t (j + i) mark-fits)))
 
 pub ruleset mark-lining = (mark-key, mark-word, mark-room, mark-unended, mark-room-2, mark-read)
 
@@ -358,8 +360,8 @@ pub ruleset mark-lining = (mark-key, mark-word, mark-room, mark-unended, mark-ro
 pub shown-spaced : (d : Name) (t : List ℕ) → Told here (λ e n. n ≡ length d + 2 + length (e .shown) + 0) (spaced d) t
 unfolding spaced
 shown-spaced d t =
-    told-after here (Bytewise 1) _ (due LINE (text " ")) (λ _. fieldEntry d) t (told-due (text " ") t)
-    (λ a n h. told-weaker (λ e i q. omega arith) (told-field d (drop n t)))
+    told-weaker (λ e n h. omega (arith, length-append (text " ") (d ++ text "=" ++ e .shown), length-append (d ++ text "=") (e .shown), length-append d (text "=")))
+    (told-inline (bind-built (due-built (text " ") line-fault) λ _. entry-line-built d) (bind-spells (due-spells LINE (text " ")) λ _. behind-spells (text " ") (field-spells d)) t)
 
 module _ (d : Name) (t : List ℕ) (p : Bytes) (space : p ≡ asBytes t (due 2 (text " ") 0 t)) where
   pub put-space : (k f : ℕ) → p ≡ B.Refused k → f ≡ bytesFault p → VP.Refused f ≡ asValue (length d + 2) (spaced d 0 t)

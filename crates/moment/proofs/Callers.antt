@@ -17,23 +17,18 @@ use Rattle.meaning.specs.Sheet.{Sheet, Status, statuses}
 use Rattle.meaning.specs.Card as M
 use Rattle.meaning.specs.Card.{Put, is}
 use Rattle.meaning.specs.Step.{putIn, moment, rose, within, childless, startedFrom, started, pattern}
+use Rattle.theory.specs.Lists.{map-set}
 use Rattle.theory.specs.Formed.{Each}
 use Rattle.theory.specs.Cards.{PutIn}
 use Rattle.number.specs.Answers.{coded}
 use Rattle.tables.specs.Heads.{padded, underCode}
-use Rattle.tables.proofs.Padded.{padded-length, padded-take}
+use Rattle.tables.proofs.Padded.{padded-at, padded-store, padded-length}
 use Rattle.card.specs.Answers.{markCode, valueCodes}
 use Rattle.card.specs.Parts.{sideOf}
-use Rattle.step.proofs.Sides.{padded-at, padded-set}
 use Rattle.moment.specs.Tables.{putCodes, markParent, markParents, taskMark, taskMarks}
 use Rattle.moment.proofs.Laws.{task-at}
 
 -- THE VALUES
-
-map-set : {A B : Type 0} (f : A → B) (xs : List A) (x : ℕ) (a : A) → map f (set xs x a) ≡ set (map f xs) x (f a)
-map-set f [] x a = refl
-map-set f (y ∷ xs) zero a = refl
-map-set f (y ∷ xs) (suc x) a = ap (λ r. f y ∷ r) (map-set f xs x a)
 
 abbrev code : Entry → ℕ
 code e = coded (e .value)
@@ -45,7 +40,7 @@ put-codes [] es rest h = refl
 put-codes (p ∷ ps) es rest h =
     let below : p .field < length (map code es) = omega (arith, h p (inl refl) .field, length-map es code) in
     let one : set (padded 16 0 (map code es)) (p .field) (code (p .entry)) ≡ padded 16 0 (map code (set es (p .field) (p .entry))) =
-    padded-set 0 16 (map code es) (p .field) (code (p .entry)) below ∙ ap (padded 16 0) (sym (map-set code es (p .field) (p .entry))) in
+    padded-store 16 0 (map code es) (p .field) (code (p .entry)) below ∙ ap (padded 16 0) (sym (map-set code es (p .field) (p .entry))) in
     ap (putCodes (map (λ p. p .field) ps) (map (λ p. code (p .entry)) ps ++ rest)) one
     ∙ put-codes ps (set es (p .field) (p .entry)) rest (λ q i. record { field = rw (length-set es (p .field) (p .entry)) (h q (inr i) .field); proper = h q (inr i) .proper })
 
@@ -140,7 +135,7 @@ module _ (sh : Sheet) (before after : List Bool) where
   started-long x (s ∷ ss) = ap suc (started-long (suc x) ss)
 
 mark-yes : (bs : List Bool) (x : ℕ) → eqb (getD (padded 32 0 (map markCode bs)) x 0) 2 ≡ is bs x
-mark-yes bs x = ap (λ n. eqb n 2) (padded-at 0 32 (map markCode bs) x ∙ List·getD-map markCode bs x false) ∙ go (is bs x)
+mark-yes bs x = ap (λ n. eqb n 2) (padded-at 32 0 (map markCode bs) x ∙ List·getD-map markCode bs x false) ∙ go (is bs x)
   where
     go : (b : Bool) → eqb (markCode b) 2 ≡ b
     go true = refl
@@ -178,7 +173,7 @@ module _ (sh : Sheet) (few : length (statuses sh) ≤ 32) (before after : List B
 
   blank : (x : ℕ) → _≡_ {A = ℕ} (getD (replicate 32 0) x 0) 0
   unfolding padded
-  blank x = padded-at {A = ℕ} 0 32 [] x
+  blank x = padded-at {A = ℕ} 32 0 [] x
 
   tasks-side : sideOf (take (length (sh .stages)) (taskMarks parents (marks before) (marks after))) ≡ started sh before after
   unfolding started childless sideOf

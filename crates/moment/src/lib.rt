@@ -7,7 +7,7 @@ ghost use lib.ListN.{take, set, replicate};
 ghost use Rattle.meaning.specs.Step.{pattern};
 ghost use Rattle.card.specs.Parts.{sideOf};
 ghost use Rattle.moment.specs.Tables.{putCodes, markParent, markParents, taskMark, taskMarks};
-use card::Happening;
+use event::Happening;
 
 fn wide(x: u8) -> usize
     ensures { λ r. ⌜ r ≡ x ⌝ }

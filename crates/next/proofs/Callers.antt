@@ -20,8 +20,9 @@ use Rattle.theory.specs.Cases.{at, after, case-meets}
 use Rattle.number.specs.Answers.{coded}
 use Rattle.tables.specs.Heads.{padded, asHeads, headsOf}
 use Rattle.card.specs.declared.Card.{Card}
-use Rattle.card.specs.declared.Happening.{Happening}
-use Rattle.card.specs.Answers.{markCode, asCard, asHappening, valueCodes}
+use Rattle.event.specs.declared.Happening.{Happening}
+use Rattle.card.specs.Answers.{markCode, asCard, valueCodes}
+use Rattle.event.specs.Answers.{asHappening}
 use Rattle.step.specs.Run.{runOver}
 use Rattle.step.proofs.Callers.{order-once, step-leads}
 use Rattle.moment.proofs.Callers.{tasks-are}

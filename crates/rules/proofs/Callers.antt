@@ -4,7 +4,7 @@ use mathlib.Core.Path.{_≡_, refl, _∙_, ap}
 use mathlib.Core.Bool.{cond}
 use mathlib.Core.List.{List, []}
 use native.Mathlib.Omega.{arith}
-use lib.ListN.{length}
+use lib.ListN.{length, take}
 use lib.Seq.{sets}
 use Rattle.meaning.specs.Text.{text}
 use Rattle.meaning.specs.Limits.{ruleLimit}
@@ -22,8 +22,10 @@ use Rattle.number.specs.declared.End.{End}
 use Rattle.number.specs.declared.End.the-variants as D
 use Rattle.number.proofs.Callers.{end-got, end-wrong}
 use Rattle.trigger.specs.Answers.{isPlus}
+use Rattle.tables.proofs.Padded.{padded-take}
+use Rattle.rules.proofs.Scan.{rows-count}
 use Rattle.rules.specs.declared.RulesRead.{RulesRead}
-use Rattle.rules.specs.Answers.{nodeOf, asRule, allWords, asRules, asRulesRead, wordsSpace}
+use Rattle.rules.specs.Answers.{nodeOf, noRule, asRule, asRows, allWords, asRules, asRulesRead, wordsSpace}
 
 -- nothing is left behind the rules
 abbrev Closed : {A : Type 0} → Got A → Type 0
@@ -98,3 +100,8 @@ node-same top r = go (r .sign)
     go : (g : M.Sign) → cond (isPlus g) (up (r .status)) (down (r .status)) ≡ node g (r .status)
     go M.plus = refl
     go M.minus = refl
+
+-- the rules that were read, without what stands behind them
+pub rows-taken : (rs : List M.Rule) → take (asRules rs .count) (asRules rs .rows) ≡ asRows 0 rs
+unfolding asRules
+rows-taken rs = rw (← rows-count 0 rs) (padded-take 128 noRule (asRows 0 rs))

@@ -18,7 +18,7 @@ use Rattle.text.specs.Packed.{named}
 use Rattle.condition.specs.declared.Place.{Place}
 use Rattle.condition.specs.declared.CondRead.{CondRead}
 use Rattle.condition.specs.declared.CondRead.the-variants as C
-use Rattle.condition.proofs.Told.{Told, Any}
+use Rattle.theory.specs.Told.{Told, Any}
 use Rattle.trigger.specs.declared.Start.{Start}
 use Rattle.trigger.specs.declared.StartRead.{StartRead}
 use Rattle.trigger.specs.declared.StartRead.the-variants as S

@@ -21,7 +21,7 @@ use Rattle.text.specs.Packed.{named}
 use Rattle.text.proofs.Callers.{begins-fits}
 use Rattle.tables.specs.Heads.{padded}
 use Rattle.tables.proofs.Padded.{padded-set}
-use Rattle.condition.proofs.Kept.{sets-append}
+use Rattle.theory.specs.Lists.{sets-append}
 use Rattle.trigger.proofs.Answered.{behind, Ends}
 use Rattle.rules.specs.declared.Rules.{Rules}
 use Rattle.rules.specs.declared.Row.{Row}
@@ -47,7 +47,7 @@ leaves-more so r = joined-more (λ r. leavesOf (r .condition)) so r
 count-more : (so : List M.Rule) (r : M.Rule) → length (so ++ (r ∷ [])) ≡ suc (length so)
 count-more so r = rw length-append (omega arith)
 
-rows-count : (top : ℕ) (so : List M.Rule) → length (asRows top so) ≡ length so
+pub rows-count : (top : ℕ) (so : List M.Rule) → length (asRows top so) ≡ length so
 unfolding asRows
 rows-count top [] = refl
 rows-count top (r ∷ so) = ap suc (rows-count (top + length (ws r)) so)

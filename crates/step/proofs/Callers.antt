@@ -21,6 +21,7 @@ use Rattle.number.specs.Answers.{coded}
 use Rattle.tables.specs.Heads.{padded, underCode}
 use Rattle.verdict.specs.Fits.{Fits}
 use Rattle.rules.specs.Answers.{noRule, asRows, allWords, asRules}
+use Rattle.rules.proofs.Scan.{rows-count}
 use Rattle.plan.specs.declared.Plan.{Plan}
 use Rattle.plan.specs.Plan.{groupOf, listedBy, asPlan}
 use Rattle.plan.proofs.Callers.{listed-few, listed-suc, plan-end, plan-group}
@@ -28,18 +29,6 @@ use Rattle.step.specs.Run.{nodeMet, setMark, startOf, rowsAt, runFrom, r
 use Rattle.step.specs.Moment.{markCode, marked, givenAt, planOf}
 use Rattle.step.proofs.Sides.{mark-set}
 use Rattle.step.proofs.Holding.{node-same}
-
--- THE ROWS OF A SHEET
-
-rows-length : (rs : List M.Rule) (top : ℕ) → length (asRows top rs) ≡ length rs
-unfolding asRows
-rows-length [] top = refl
-rows-length (r ∷ rs) top = ap suc (rows-length rs _)
-
--- the rules that were read, without what stands behind them
-pub rows-taken : (rs : List M.Rule) → take (asRules rs .count) (asRules rs .rows) ≡ asRows 0 rs
-unfolding asRules padded
-rows-taken rs = take-at (asRows 0 rs) (replicate (128 - length (asRows 0 rs)) noRule) (length rs) (rows-length rs 0)
 
 -- A LIST OF NODES
 
@@ -76,7 +65,7 @@ AllFit sh = (r : M.Rule) → In r (sh .rules) → (c : Cond) → r .condition �
 
 module _ (sh : Sheet) (w : Well sh) (fits : AllFit sh) (o : List ℕ) (once : Once o) (only : (k : ℕ) → In k o → k < nodes sh) where
   few : length (listedBy (asRows 0 (sh .rules)) o) ≤ 128
-  few = omega (arith, listed-few (asRows 0 (sh .rules)) o once, rows-length (sh .rules) 0, w .rules-few)
+  few = omega (arith, listed-few (asRows 0 (sh .rules)) o once, rows-count 0 (sh .rules), w .rules-few)
 
   start-at : (i : ℕ) → i ≤ length o → startOf (planOf sh o) i ≡ length (listedBy (asRows 0 (sh .rules)) (take i o))
   unfolding listedBy joined

@@ -20,6 +20,7 @@ use Rattle.meaning.specs.Sheet.{Sheet, Status, Sign, plus, minus, statuses, sta
 use Rattle.meaning.specs.Card.{is}
 use Rattle.meaning.specs.Dependency.{up, down, node, consequent, closing, impliedFrom, allRules, rulesFor}
 use Rattle.meaning.specs.Step.{Moment, rising, allowed, triggered, fulfilled, housed, holds, someHolds}
+use Rattle.tables.proofs.Tables.{under-over}
 use Rattle.tables.specs.Heads.{padded, underCode}
 use Rattle.verdict.specs.Machine.{verdictOf}
 use Rattle.verdict.specs.Flat.{words}
@@ -34,7 +35,7 @@ use Rattle.plan.specs.Plan.{groupOf}
 use Rattle.plan.proofs.Laws.{group-hit, group-miss}
 use Rattle.step.specs.Run.{triggerMet, conditionMet, homeMet, parentFell, closes, mayChange, ruleMet, nodeMet}
 use Rattle.step.specs.Moment.{marked, givenAt}
-use Rattle.step.proofs.Sides.{mark-yes, mark-known, value-at, under-at}
+use Rattle.step.proofs.Sides.{mark-yes, mark-known, value-at}
 use Rattle.step.proofs.Parts.{words-of}
 
 -- TESTS JOINED
@@ -183,7 +184,7 @@ module _ (sh : Sheet) (m : Moment) (half : List Bool) where
   unfolding ruleMet asRule
   rule-same top rest r fits e =
       ap₂ _&&_ (ap₂ _&&_ (trigger-same (r .trigger)) (condition-same (givenAt sh m .words) top rest (r .condition) fits e))
-      (ap (homeMet (marked half) (isPlus (r .sign))) (under-at sh (r .status)) ∙ home-same (r .sign) (stageOver sh (r .status)))
+      (ap (homeMet (marked half) (isPlus (r .sign))) (under-over sh (r .status)) ∙ home-same (r .sign) (stageOver sh (r .status)))
 
   -- with it
   holds-same : (top : ℕ) (rest : List ℕ) (r : M.Rule) (k : ℕ) → ((d : Cond) → r .condition ≡ some d → Fits d) → drop top (givenAt sh m .words) ≡ wordsOf (r .condition) ++ rest → consequent r ≡ k
@@ -266,7 +267,7 @@ module _ (sh : Sheet) (m : Moment) (half : List Bool) where
       stage true h odd =
           let below : k / 2 < length (sh .stages) = ltb-true (k / 2) (length (sh .stages)) h in
           let is : down (k / 2) ≡ k = omega arith in
-          ap (λ n. may && parentFell (marked (m .before)) (marked half) n) (under-at sh (k / 2) ∙ ap underCode (stage-over sh (k / 2) below))
+          ap (λ n. may && parentFell (marked (m .before)) (marked half) n) (under-over sh (k / 2) ∙ ap underCode (stage-over sh (k / 2) below))
           ∙ closing-same k (k / 2) (getD (sh .stages) (k / 2) noStatus .under) is
           ∙ ap (any (holds sh m half)) (sym (implied-at k (sh .stages) 0 (k / 2) below (rw zero-add is) ∙ ap (λ y. closing y (getD (sh .stages) (k / 2) noStatus .under)) (zero-add (k / 2))))
       stage false h odd =

@@ -14,31 +14,12 @@ use Rattle.meaning.specs.Sheet.{Sheet, Status, statuses, stageOver}
 use Rattle.meaning.specs.Card.{is}
 use Rattle.meaning.specs.Step.{rising, setIf}
 use Rattle.number.specs.Answers.{coded}
+use Rattle.theory.specs.Lists.{map-set}
+use Rattle.tables.proofs.Padded.{padded-at, padded-store}
 use Rattle.tables.specs.Heads.{padded, underCode}
 use Rattle.verdict.specs.Machine.{markOf, valueOf}
 use Rattle.step.specs.Run.{yes, setMark}
 use Rattle.step.specs.Moment.{markCode, marked}
-
--- AN ARRAY THAT A LIST BEGINS
-
-module _ {A : Type 0} (d : A) where
-  nothing-behind : (n x : ℕ) → getD (replicate n d) x d ≡ d
-  nothing-behind zero x = refl
-  nothing-behind (suc n) zero = refl
-  nothing-behind (suc n) (suc x) = nothing-behind n x
-
-  read-behind : (xs : List A) (n x : ℕ) → getD (xs ++ replicate n d) x d ≡ getD xs x d
-  read-behind [] n x = nothing-behind n x
-  read-behind (y ∷ xs) n zero = refl
-  read-behind (y ∷ xs) n (suc x) = read-behind xs n x
-
-  pub padded-at : (n : ℕ) (xs : List A) (x : ℕ) → getD (padded n d xs) x d ≡ getD xs x d
-  unfolding padded
-  padded-at n xs x = read-behind xs (n - length xs) x
-
-  pub padded-set : (n : ℕ) (xs : List A) (x : ℕ) (a : A) → x < length xs → set (padded n d xs) x a ≡ padded n d (set xs x a)
-  unfolding padded
-  padded-set n xs x a h = set-append-left xs (replicate (n - length xs) d) x a h ∙ ap (λ k. set xs x a ++ replicate (n - k) d) (sym (length-set xs x a))
 
 -- WHAT IS READ
 
@@ -57,7 +38,7 @@ code-value (number-at v) = refl
 module _ (bs : List Bool) (x : ℕ) where
   mark-at : getD (marked bs) x 0 ≡ markCode (is bs x)
   unfolding marked
-  mark-at = padded-at 0 32 (map markCode bs) x ∙ List·getD-map markCode bs x false
+  mark-at = padded-at 32 0 (map markCode bs) x ∙ List·getD-map markCode bs x false
 
   -- a status is yes
   pub mark-yes : yes (marked bs) x ≡ is bs x
@@ -68,19 +49,9 @@ module _ (bs : List Bool) (x : ℕ) where
 
 -- a field's value
 pub value-at : (vs : List Value) (f : ℕ) → valueOf (getD (padded 16 0 (map coded vs)) f 0) ≡ getD vs f missing
-value-at vs f = ap valueOf (padded-at 0 16 (map coded vs) f ∙ List·getD-map coded vs f missing) ∙ code-value (getD vs f missing)
-
--- the stage over a status
-pub under-at : (sh : Sheet) (x : ℕ) → getD (padded 32 0 (map (λ s. underCode (s .under)) (statuses sh))) x 0 ≡ underCode (stageOver sh x)
-unfolding stageOver
-under-at sh x = padded-at 0 32 (map (λ s. underCode (s .under)) (statuses sh)) x ∙ List·getD-map (λ (s : Status). underCode (s .under)) (statuses sh) x (record { name = []; under = none })
+value-at vs f = ap valueOf (padded-at 16 0 (map coded vs) f ∙ List·getD-map coded vs f missing) ∙ code-value (getD vs f missing)
 
 -- WHAT IS SET
-
-map-set : {A B : Type 0} (f : A → B) (xs : List A) (x : ℕ) (a : A) → map f (set xs x a) ≡ set (map f xs) x (f a)
-map-set f [] x a = refl
-map-set f (y ∷ xs) zero a = refl
-map-set f (y ∷ xs) (suc x) a = ap (λ r. f y ∷ r) (map-set f xs x a)
 
 code-cond : (b : Bool) → cond b 2 0 ≡ markCode b
 code-cond true = refl
@@ -90,7 +61,7 @@ code-cond false = refl
 pub mark-set : (b : Bool) (k : ℕ) (half : List Bool) → k / 2 < length half → setMark b k (marked half) ≡ marked (setIf b k half)
 unfolding setMark setIf marked
 mark-set true k half h =
-    padded-set 0 32 (map markCode half) (k / 2) (cond (rising k) 2 0) (omega (arith, length-map half markCode))
+    padded-store 32 0 (map markCode half) (k / 2) (cond (rising k) 2 0) (omega (arith, length-map half markCode))
     ∙ ap (λ n. padded 32 0 (set (map markCode half) (k / 2) n)) (code-cond (rising k))
     ∙ ap (padded 32 0) (sym (map-set markCode half (k / 2) (rising k)))
 mark-set false k half h = refl

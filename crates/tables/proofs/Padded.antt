@@ -1,15 +1,35 @@
 -- Arrays that begin with a list: what a store behind the list makes of them, and how its parts are found again.
-use Prim.Native.Nat.{ℕ, suc, _+_, _-_, _<_, _≤_}
+use Prim.Native.Nat.{ℕ, zero, suc, _+_, _-_, _<_, _≤_}
 use mathlib.Core.Path.{_≡_, refl, sym, _∙_, ap}
 use mathlib.Core.List.{List, [], _∷_, _++_, map, append-assoc, map-append}
 use native.Mathlib.Omega.{arith}
-use lib.ListN.{length, take, drop, set, replicate, length-append, length-replicate, length-map, replicate-append-replicate}
-use lib.Seq.{take-append-seam, drop-append-seam, set-append-seam, append-snoc}
+use lib.ListN.{length, take, drop, getD, set, replicate, length-set, length-append, length-replicate, length-map, replicate-append-replicate}
+use lib.Seq.{set-append-left, take-append-seam, drop-append-seam, set-append-seam, append-snoc}
 use Rattle.meaning.specs.Name.{Name}
 use Rattle.text.specs.Packed.{packed, named}
 use Rattle.tables.specs.Heads.{padded, Again}
 
+-- what stands behind a list reads as if nothing stood there
+pub behind-at : {A : Type 0} (d : A) (m : ℕ) (xs : List A) (i : ℕ) → getD (xs ++ replicate m d) i d ≡ getD xs i d
+behind-at {A} d m [] i = blank m i
+  where
+    blank : (m i : ℕ) → getD (replicate m d) i d ≡ d
+    blank zero i = refl
+    blank (suc m) zero = refl
+    blank (suc m) (suc i) = blank m i
+behind-at d m (x ∷ xs) zero = refl
+behind-at d m (x ∷ xs) (suc i) = behind-at d m xs i
+
 module _ {A : Type 0} (n : ℕ) (d : A) where
+  -- a place of the array, and a store within the list
+  pub padded-at : (xs : List A) (i : ℕ) → getD (padded n d xs) i d ≡ getD xs i d
+  unfolding padded
+  padded-at xs i = behind-at d (n - length xs) xs i
+
+  pub padded-store : (xs : List A) (i : ℕ) (a : A) → i < length xs → set (padded n d xs) i a ≡ padded n d (set xs i a)
+  unfolding padded
+  padded-store xs i a h = set-append-left xs (replicate (n - length xs) d) i a h ∙ ap (λ k. set xs i a ++ replicate (n - k) d) (sym (length-set xs i a))
+
   pub padded-length : (xs : List A) → length xs ≤ n → length (padded n d xs) ≡ n
   unfolding padded
   padded-length xs h = omega (arith, length-append xs (replicate (n - length xs) d), length-replicate (n - length xs) d)

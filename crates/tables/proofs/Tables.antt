@@ -11,7 +11,7 @@ use lib.ListN.{length, take, drop, getD, replicate, length-append, length-map, L
 use lib.Seq.{take-length, take-append-seam, drop-append-add, getD-append-add}
 use Rattle.meaning.specs.Text.{In, isIn, run, joined, from}
 use Rattle.meaning.specs.Name.{Name, nameByte}
-use Rattle.meaning.specs.Sheet.{Sheet, Event, Status, eventNames, statusNames, statuses}
+use Rattle.meaning.specs.Sheet.{Sheet, Event, Status, eventNames, statusNames, statuses, stageOver}
 use Rattle.meaning.specs.Graph.{without}
 use Rattle.theory.specs.Lists.{in-cases, map-in, Once, is-in, in-is, without-in, once-without, length-without, at-place}
 use Rattle.theory.specs.Names.{Good, good-short, good-plain}
@@ -21,7 +21,7 @@ use Rattle.text.proofs.Packs.{Plain, plain-run}
 use Rattle.text.proofs.Callers.{named-packed}
 use Rattle.tables.specs.declared.Heads.{Heads}
 use Rattle.tables.specs.Heads.{padded, underCode, underOf, allNames, asHeads, namesAt, eventAt, statusAt, headsOf, Sized, Again}
-use Rattle.tables.proofs.Padded.{padded-length, names-part}
+use Rattle.tables.proofs.Padded.{padded-length, padded-at, names-part}
 
 -- GOOD NAMES are told by their numbers
 good-again : (w : Name) → Good w → named (packed w) ≡ w
@@ -33,21 +33,6 @@ good-again w g =
 again-each : (ns : List Name) → Each Good ns → Again ns
 again-each [] h = refl
 again-each (w ∷ ns) h = rw (good-again w (h w (inl refl)), again-each ns (λ x m. h x (inr m)))
-
--- A LIST IN AN ARRAY, place by place
-blank-at : {A : Type 0} (m i : ℕ) (d : A) → getD (replicate m d) i d ≡ d
-blank-at zero i d = refl
-blank-at (suc m) zero d = refl
-blank-at (suc m) (suc i) d = blank-at m i d
-
-padded-at : {A : Type 0} (n : ℕ) (d : A) (xs : List A) (i : ℕ) → getD (padded n d xs) i d ≡ getD xs i d
-unfolding padded
-padded-at n d xs i = go (n - length xs) xs i
-  where
-    go : (m : ℕ) (ys : List _) (i : ℕ) → getD (ys ++ replicate m d) i d ≡ getD ys i d
-    go m [] i = blank-at m i d
-    go m (y ∷ ys) zero = refl
-    go m (y ∷ ys) (suc i) = go m ys i
 
 -- a bound for all members
 mapped-at : {A : Type 0} (f : A → ℕ) (k : ℕ) (xs : List A) (i : ℕ) → ((x : A) → In x xs → f x ≤ k) → getD (map f xs) i 0 ≤ k
@@ -251,3 +236,8 @@ module _ (sh : Sheet) (w : Well sh) where
   pub heads-again : sh .rules ≡ [] → headsOf (asHeads sh) ≡ sh
   unfolding headsOf asHeads
   heads-again bare = rw (good-again (sh .model) (w .model), fields-again, events-again, stages-again, miles-again, ← bare)
+
+-- the stage over a status, in its table
+pub under-over : (sh : Sheet) (x : ℕ) → getD (padded 32 0 (map (λ s. underCode (s .under)) (statuses sh))) x 0 ≡ underCode (stageOver sh x)
+unfolding stageOver
+under-over sh x = padded-at 32 0 (map (λ s. underCode (s .under)) (statuses sh)) x ∙ List·getD-map (λ (s : Status). underCode (s .under)) (statuses sh) x (record { name = []; under = none })

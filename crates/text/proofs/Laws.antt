@@ -124,16 +124,16 @@ unfolding shifted
 shifted-zero (F.At i) = ap (λ n. F.At n) (omega arith)
 shifted-zero F.Nothing = refl
 
-shifted-suc : (k : ℕ) (f : Found) → shifted k (further f) ≡ shifted (suc k) f
+pub shifted-suc : (k : ℕ) (f : Found) → shifted k (further f) ≡ shifted (suc k) f
 unfolding shifted
 shifted-suc k (F.At i) = ap (λ n. F.At n) (omega arith)
 shifted-suc k F.Nothing = refl
 
-found-here : (w v : ℕ) (vs : List ℕ) → v ≡ w → foundIn w (v ∷ vs) ≡ F.At 0
+pub found-here : (w v : ℕ) (vs : List ℕ) → v ≡ w → foundIn w (v ∷ vs) ≡ F.At 0
 unfolding foundIn
 found-here w v vs e = rw (eq-eqb v w e, foundIn)
 
-found-later : (w v : ℕ) (vs : List ℕ) → (v ≡ w → ⊥) → foundIn w (v ∷ vs) ≡ further (foundIn w vs)
+pub found-later : (w v : ℕ) (vs : List ℕ) → (v ≡ w → ⊥) → foundIn w (v ∷ vs) ≡ further (foundIn w vs)
 unfolding foundIn
 found-later w v vs e = rw (ne-eqb v w e, foundIn)
 

@@ -80,7 +80,7 @@ card-pieces sh es bs l i j a b c g p q r = rw (dueName-again (sh .model) (10 ∷
 -- HOW LONG A CARD IS
 
 -- a line, its mark and its LF
-line-length : (n v : List ℕ) → length (line n v) ≡ length n + length v + 2
+pub line-length : (n v : List ℕ) → length (line n v) ≡ length n + length v + 2
 unfolding line
 line-length n v = omega (arith, length-append (n ++ text "=" ++ v) (text "\n"), length-append (n ++ text "=") v, length-append n (text "="))
 
@@ -175,7 +175,7 @@ module _ (sh : Sheet) (well : Well sh) where
 -- A STEP'S RESULT
 
 -- as many entries as before
-put-length : (ps : List Put) (es : List Entry) → length (putIn ps es) ≡ length es
+pub put-length : (ps : List Put) (es : List Entry) → length (putIn ps es) ≡ length es
 unfolding putIn
 put-length [] es = refl
 put-length (p ∷ ps) es = put-length ps (set es (p .field) (p .entry)) ∙ length-set es (p .field) (p .entry)

@@ -1,6 +1,6 @@
 -- How every reader is built: from a few pieces, by one after the other and by choice. What the pieces have and the joining keeps, every reader has.
 use Prim.Native.Nat.{ℕ, _+_, _≤_}
-use mathlib.Core.Bool.{Bool, not}
+use mathlib.Core.Bool.{Bool, true, false, not}
 use mathlib.Core.List.{List, [], _∷_}
 use mathlib.Core.Option.{Option, none, some}
 use native.Mathlib.Omega.{arith}
@@ -15,20 +15,27 @@ use Rattle.meaning.specs.Number.{middle, digits, place, judged, number, entry, 
 abbrev pub Fault : ℕ → Type 0
 Fault n = (2 ≤ n) × (n ≤ 6)
 
--- the pieces, one after the other, and choice
-pub data BuiltOf : (A : Type 0) → Reader A → Type 1 where
-  give-built : {A : Type 0} {a : A} → BuiltOf A (give a)
-  refuse-built : {A : Type 0} {n : ℕ} → Fault n → BuiltOf A (refuse n)
-  choose-built : {A : Type 0} {r t : Reader A} (b : Bool) → BuiltOf A r → BuiltOf A t → BuiltOf A (choose b r t)
-  bind-built : {A B : Type 0} {r : Reader A} {f : A → Reader B} → BuiltOf A r → ((a : A) → BuiltOf B (f a)) → BuiltOf B (λ l s. after (r l s) f)
-  notEnded-built : BuiltOf (Unit {0}) notEnded
-  paperEnd-built : BuiltOf (Unit {0}) paperEnd
-  stands-built : (w : List ℕ) → BuiltOf Bool (stands w)
-  longest-built : (p : ℕ → Bool) → BuiltOf (List ℕ) (longest p)
-  lineEnd-built : {n : ℕ} → Fault n → BuiltOf (Unit {0}) (lineEnd n)
+-- the pieces, one after the other, and choice; whether lines may end in it
+pub data BuiltOf : Bool → (A : Type 0) → Reader A → Type 1 where
+  give-built : {m : Bool} {A : Type 0} {a : A} → BuiltOf m A (give a)
+  refuse-built : {m : Bool} {A : Type 0} {n : ℕ} → Fault n → BuiltOf m A (refuse n)
+  choose-built : {m : Bool} {A : Type 0} {r t : Reader A} (b : Bool) → BuiltOf m A r → BuiltOf m A t → BuiltOf m A (choose b r t)
+  bind-built : {m : Bool} {A B : Type 0} {r : Reader A} {f : A → Reader B} → BuiltOf m A r → ((a : A) → BuiltOf m B (f a)) → BuiltOf m B (λ l s. after (r l s) f)
+  notEnded-built : {m : Bool} → BuiltOf m (Unit {0}) notEnded
+  paperEnd-built : {m : Bool} → BuiltOf m (Unit {0}) paperEnd
+  stands-built : {m : Bool} (w : List ℕ) → BuiltOf m Bool (stands w)
+  longest-built : {m : Bool} (p : ℕ → Bool) → BuiltOf m (List ℕ) (longest p)
+  lineEnd-built : {n : ℕ} → Fault n → BuiltOf true (Unit {0}) (lineEnd n)
+
+abbrev pub BuiltIn : {A : Type 0} → Bool → Reader A → Type 1
+BuiltIn {A} m r = BuiltOf m A r
 
 abbrev pub Built : {A : Type 0} → Reader A → Type 1
-Built {A} r = BuiltOf A r
+Built {A} r = BuiltOf true A r
+
+-- one that ends no line
+abbrev pub Inline : {A : Type 0} → Reader A → Type 1
+Inline {A} r = BuiltOf false A r
 
 -- the five numbers
 pub line-fault : Fault LINE
@@ -49,11 +56,11 @@ full-fault = (omega arith, omega arith)
 -- PIECES
 
 -- a demand
-pub demand-built : {n : ℕ} (b : Bool) → Fault n → Built (demand n b)
+pub demand-built : {m : Bool} {n : ℕ} (b : Bool) → Fault n → BuiltIn m (demand n b)
 demand-built b h = choose-built b give-built (refuse-built h)
 
 -- a text due
-pub due-built : {n : ℕ} (w : List ℕ) → Fault n → Built (due n w)
+pub due-built : {m : Bool} {n : ℕ} (w : List ℕ) → Fault n → BuiltIn m (due n w)
 unfolding due
 due-built w h =
     bind-built notEnded-built λ _.
@@ -61,7 +68,7 @@ due-built w h =
     demand-built b h
 
 -- one of some texts
-pub oneOf-built : {A : Type 0} {n : ℕ} (ws : List (Word A)) → Fault n → Built (oneOf n ws)
+pub oneOf-built : {m : Bool} {A : Type 0} {n : ℕ} (ws : List (Word A)) → Fault n → BuiltIn m (oneOf n ws)
 unfolding oneOf
 oneOf-built [] h = refuse-built h
 oneOf-built (w ∷ ws) h =
@@ -69,7 +76,7 @@ oneOf-built (w ∷ ws) h =
     choose-built b give-built (oneOf-built ws h)
 
 -- a reader for each member
-pub each-built : {A B : Type 0} {r : B → Reader A} → ((b : B) → Built (r b)) → (bs : List B) → Built (each r bs)
+pub each-built : {m : Bool} {A B : Type 0} {r : B → Reader A} → ((b : B) → BuiltIn m (r b)) → (bs : List B) → BuiltIn m (each r bs)
 unfolding each
 each-built h [] = give-built
 each-built h (b ∷ bs) =
@@ -80,7 +87,7 @@ each-built h (b ∷ bs) =
 -- NAMES AND NUMBERS
 
 -- a name
-pub name-built : Built name
+pub name-built : {m : Bool} → BuiltIn m name
 unfolding name
 name-built =
     bind-built notEnded-built λ _.
@@ -89,7 +96,7 @@ name-built =
     give-built
 
 -- a new name
-pub newName-built : (used : List Name) → Built (newName used)
+pub newName-built : {m : Bool} (used : List Name) → BuiltIn m (newName used)
 unfolding newName
 newName-built used =
     bind-built name-built λ w.
@@ -97,36 +104,36 @@ newName-built used =
     give-built
 
 -- the name due
-pub dueName-built : (n : Name) → Built (dueName n)
+pub dueName-built : {m : Bool} (n : Name) → BuiltIn m (dueName n)
 unfolding dueName
 dueName-built n =
     bind-built name-built λ w.
     demand-built (same w n) name-fault
 
 -- a known name
-pub known-built : (ns : List Name) → Built (known ns)
+pub known-built : {m : Bool} (ns : List Name) → BuiltIn m (known ns)
 unfolding known
-known-built ns = bind-built name-built λ w. go (find w ns)
+known-built {m} ns = bind-built name-built λ w. go (find w ns)
   where
-    go : (f : Option ℕ) → Built (placed f)
+    go : (f : Option ℕ) → BuiltIn m (placed f)
     go none = refuse-built name-fault
     go (some i) = give-built
 
 -- a number
-pub number-built : Built number
+pub number-built : {m : Bool} → BuiltIn m number
 unfolding number
-number-built =
+number-built {m} =
     bind-built notEnded-built λ _.
     bind-built (stands-built (text "-")) λ minus.
     bind-built (longest-built digit) λ ds.
     go minus ds (place minus (digits ds))
   where
-    go : (minus : Bool) (ds : List ℕ) (o : Option ℕ) → Built (judged minus ds o)
+    go : (minus : Bool) (ds : List ℕ) (o : Option ℕ) → BuiltIn m (judged minus ds o)
     go minus ds none = refuse-built number-fault
     go minus ds (some v) = give-built
 
 -- an entry
-pub entry-built : Built entry
+pub entry-built : {m : Bool} → BuiltIn m entry
 unfolding entry
 entry-built =
     bind-built notEnded-built λ _.

@@ -14,17 +14,17 @@ use Rattle.meaning.specs.ReadCondition.{operator, readAnd, readCond, named, rea
 use Rattle.meaning.specs.Sheet.{Sheet, Event, Status, Rule, statuses, statusNames, eventNames, leaves}
 use Rattle.meaning.specs.ReadSheet.{section, fieldRow, carried, eventRow, status, stageRow, mileRow, signs, trigger, ruleRow, rulesOf, heads, sheet}
 use Rattle.meaning.specs.Card.{fieldEntry, marks, statusMark, ended, card, carriedBy, put, happening}
-use Rattle.theory.specs.Built.{Built, give-built, refuse-built, choose-built, bind-built, notEnded-built, paperEnd-built, stands-built, Fault, line-fault, name-fault, cond-fault, full-fault, demand-built, due-built, oneOf-built, lineEnd-built, each-built, name-built, newName-built, dueName-built, known-built, number-built, entry-built, endLine-built}
+use Rattle.theory.specs.Built.{BuiltIn, Built, give-built, refuse-built, choose-built, bind-built, notEnded-built, paperEnd-built, stands-built, Fault, line-fault, name-fault, cond-fault, full-fault, demand-built, due-built, oneOf-built, lineEnd-built, each-built, name-built, newName-built, dueName-built, known-built, number-built, entry-built, endLine-built}
 
 -- CONDITIONS
 
 -- an operator
-operator-built : Built operator
+pub operator-built : {e : Bool} → BuiltIn e operator
 unfolding operator
 operator-built = bind-built notEnded-built λ _. oneOf-built _ cond-fault
 
 -- an and-list of items
-and-built : (item : ℕ → Reader Item) → ((l : ℕ) → Built (item l)) → (m l : ℕ) → Built (readAnd item m l)
+pub and-built : {e : Bool} (item : ℕ → Reader Item) → ((l : ℕ) → BuiltIn e (item l)) → (m l : ℕ) → BuiltIn e (readAnd item m l)
 unfolding readAnd
 and-built item h zero l = refuse-built cond-fault
 and-built item h (suc m) l =
@@ -33,7 +33,7 @@ and-built item h (suc m) l =
     choose-built more (bind-built (and-built item h m (l + length (leavesI i))) λ a. give-built) give-built
 
 -- a condition of items
-cond-built : (item : ℕ → Reader Item) → ((l : ℕ) → Built (item l)) → (m l : ℕ) → Built (readCond item m l)
+pub cond-built : {e : Bool} (item : ℕ → Reader Item) → ((l : ℕ) → BuiltIn e (item l)) → (m l : ℕ) → BuiltIn e (readCond item m l)
 unfolding readCond
 cond-built item h zero l = refuse-built cond-fault
 cond-built item h (suc m) l =
@@ -42,7 +42,7 @@ cond-built item h (suc m) l =
     choose-built more (bind-built (cond-built item h m (l + length (leavesA a))) λ c. give-built) give-built
 
 -- what a name stands for
-named-built : (l : ℕ) (x f : Option ℕ) → Built (named l x f)
+named-built : {e : Bool} (l : ℕ) (x f : Option ℕ) → BuiltIn e (named l x f)
 named-built l (some x) f = bind-built (demand-built (ltb l leafLimit) full-fault) λ _. give-built
 named-built l none (some f) =
     bind-built (demand-built (ltb l leafLimit) full-fault) λ _.
@@ -53,12 +53,12 @@ named-built l none none = refuse-built name-fault
 
 module _ (sts fields : List Name) where
   -- a leaf
-  leaf-built : (l : ℕ) → Built (readLeaf sts fields l)
+  pub leaf-built : {e : Bool} (l : ℕ) → BuiltIn e (readLeaf sts fields l)
   unfolding readLeaf
   leaf-built l = bind-built name-built λ w. named-built l (find w sts) (find w fields)
 
   -- an item, over what stands behind `not ` and `(`
-  with-built : (negated grouped : Reader Item) (l : ℕ) → Built negated → Built grouped → Built (itemWith sts fields negated grouped l)
+  with-built : {e : Bool} (negated grouped : Reader Item) (l : ℕ) → BuiltIn e negated → BuiltIn e grouped → BuiltIn e (itemWith sts fields negated grouped l)
   unfolding itemWith
   with-built negated grouped l h g =
       bind-built notEnded-built λ _.
@@ -67,7 +67,7 @@ module _ (sts fields : List Name) where
       choose-built opens g (bind-built (leaf-built l) λ x. give-built))
 
   -- an item of any depth
-  item-built : (d l : ℕ) → Built (readItem sts fields d l)
+  pub item-built : {e : Bool} (d l : ℕ) → BuiltIn e (readItem sts fields d l)
   unfolding readItem
   item-built zero l = with-built _ _ l (refuse-built cond-fault) (refuse-built cond-fault)
   item-built (suc d) l = with-built _ _ l
@@ -77,7 +77,7 @@ module _ (sts fields : List Name) where
       give-built)
 
   -- a whole condition
-  condition-built : (l : ℕ) → Built (condition sts fields l)
+  pub condition-built : {e : Bool} (l : ℕ) → BuiltIn e (condition sts fields l)
   unfolding condition
   condition-built l = cond-built (readItem sts fields nestLimit) (item-built nestLimit) (suc leafLimit) l
 
@@ -134,7 +134,7 @@ status-built used stages =
 
 module _ (fields events sts : List Name) where
   -- a trigger
-  trigger-built : Built (trigger fields events sts)
+  pub trigger-built : {e : Bool} → BuiltIn e (trigger fields events sts)
   unfolding trigger
   trigger-built =
       bind-built (stands-built (text "+")) λ rises.
@@ -196,7 +196,7 @@ sheet-built =
 -- THE CARD AND THE EVENT LINE
 
 -- a field's line
-entry-line-built : (n : Name) → Built (fieldEntry n)
+pub entry-line-built : {e : Bool} (n : Name) → BuiltIn e (fieldEntry n)
 unfolding fieldEntry
 entry-line-built n =
     bind-built (dueName-built n) λ _.
@@ -204,7 +204,7 @@ entry-line-built n =
     entry-built
 
 -- a status's line
-mark-line-built : (n : Name) → Built (statusMark n)
+pub mark-line-built : {e : Bool} (n : Name) → BuiltIn e (statusMark n)
 unfolding statusMark
 mark-line-built n =
     bind-built (dueName-built n) λ _.
@@ -212,7 +212,7 @@ mark-line-built n =
     oneOf-built marks line-fault
 
 -- a whole line
-ended-built : {A : Type 0} {r : Reader A} → Built r → Built (ended r)
+pub ended-built : {A : Type 0} {r : Reader A} → Built r → Built (ended r)
 unfolding ended
 ended-built h =
     bind-built h λ a.
@@ -231,7 +231,7 @@ card-built sh =
     give-built
 
 -- what is put into a field
-put-built : (sh : Sheet) (f : ℕ) → Built (put sh f)
+pub put-built : {e : Bool} (sh : Sheet) (f : ℕ) → BuiltIn e (put sh f)
 unfolding put
 put-built sh f =
     bind-built (due-built (text " ") line-fault) λ _.

@@ -1,6 +1,6 @@
 -- Numbers and entries: whatever is read is read back from its own text, which is short, and counts are read back as they are written.
 use Prim.Native.Nat.{ℕ, suc, _+_, _-_, _*_, _^_, _≤_, _<_}
-use mathlib.Core.Path.{_≡_, refl}
+use mathlib.Core.Path.{_≡_, refl, subst}
 use mathlib.Core.Bool.{Bool, true, false, _&&_, cond}
 use mathlib.Core.List.{List, [], _∷_, _++_}
 use mathlib.Core.Option.{Option, none, some, Option·none-ne-some, Option·some-injective}
@@ -13,7 +13,7 @@ use borrow.Author.Tests.{leb-true, eqb-false, ne-eqb}
 use Rattle.meaning.specs.Text.{text, run, begins}
 use Rattle.meaning.specs.Reading.{got, notEnded, stands}
 use Rattle.meaning.specs.Name.{digit}
-use Rattle.meaning.specs.Number.{middle, amount, inRange, digits, place, Written, judged, number, number-at, Entry, entry}
+use Rattle.meaning.specs.Number.{middle, limit, amount, inRange, digits, place, Written, judged, number, missing, number-at, Entry, entry}
 use Rattle.theory.specs.Readers.{Ensures, give-ensures, refuse-ensures, choose-ensures, bind-ensures, any-ensures, ensures-weaker, ensures-both}
 use Rattle.theory.specs.Names.{longest-full, longest-again}
 use Rattle.theory.specs.Spelling.{Spells, give-spells, refuse-spells, choose-spells, bind-spells, notEnded-spells, stands-spells, longest-spells}
@@ -177,6 +177,49 @@ pub record Proper (e : Entry) : Type 0 where
 -- whatever is read as an entry is proper
 pub entry-proper : Ensures entry Proper
 entry-proper = ensures-weaker (λ e h. record { shown = h .0; short = h .1 }) (ensures-both entry-shown entry-short)
+
+-- THE SCALE
+
+-- digits that have a value stand for one in the range
+digits-most : (ds : List ℕ) (v : ℕ) → run digit ds ≡ length ds → digits ds ≡ some v → v ≤ middle
+unfolding digits
+digits-most [] v f e = absurd (Option·none-ne-some v e)
+digits-most (d ∷ []) v f e = let i = Option·some-injective (d - 48) v e in omega (arith, i, digit-first d [] f .1)
+digits-most (d ∷ x ∷ ds) v f e = let (a, b, c) = digits-range d x ds v e in omega (arith, b, c)
+
+-- and a place is at most the highest
+place-most : (minus : Bool) (x v : ℕ) → x ≤ middle → place minus (some x) ≡ some v → v ≤ limit
+unfolding place
+place-most false x v h e = let i = Option·some-injective (middle + x) v e in omega (arith, i)
+place-most true x v h e = go (eqb x 0) e
+  where
+    go : (b : Bool) → _≡_ {A = Option ℕ} (cond b none (some (middle - x))) (some v) → v ≤ limit
+    go true e = absurd (Option·none-ne-some v e)
+    go false e = let i = Option·some-injective (middle - x) v e in omega (arith, i)
+
+-- whatever is read as a number
+pub number-most : Ensures number (λ n. n .at ≤ limit)
+number-most = ensures-weaker (λ n w.
+    let (x, e) = place-some (w .minus) (digits (w .ds)) (n .at) (w .means .place) in
+    place-most (w .minus) x (n .at) (digits-most (w .ds) x (w .means .full) e) (rw e at (w .means .place))) number-wrote
+
+-- an entry's value lies on the scale, if it is a number
+entry-most : Ensures entry (λ e. (v : ℕ) → e .value ≡ number-at v → v ≤ limit)
+unfolding entry
+entry-most =
+    any-ensures notEnded λ _.
+    any-ensures (stands (text "?")) λ asked.
+    choose-ensures asked (give-ensures (λ v e. absurd (missing-number v e))) (bind-ensures number-most λ n h.
+    give-ensures (λ v e. subst (λ k. k ≤ limit) (number-same (n .at) v e) h))
+  where
+    missing-number : (v : ℕ) → missing ≡ number-at v → ⊥
+    missing-number v e = let z : _≡_ {A = ℕ} 0 1 = cc in omega arith
+
+    number-same : (k v : ℕ) → number-at k ≡ number-at v → k ≡ v
+    number-same k v e = cc
+
+pub proper-most : (e : Entry) → Proper e → (v : ℕ) → e .value ≡ number-at v → v ≤ limit
+proper-most e p = entry-most .gives 0 (e .shown ++ 10 ∷ []) .of e 0 (10 ∷ []) (p .shown 0 [])
 
 -- the text of an entry
 pub entry-spells : Spells [] entry (λ e. e .shown)

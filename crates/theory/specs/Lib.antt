@@ -26,6 +26,7 @@ pub mod BuiltPapers
 pub mod Faults
 pub mod Shift
 pub mod Lines
+pub mod Told
 pub mod Suffix
 -- One section of the sheet, row after row:
 pub mod Sections
@@ -41,9 +42,11 @@ pub mod Entries
 pub mod Counts
 pub mod Cards
 pub mod Papers
--- What is written: a card is read back, so a step's result is again accepted; every card read is so written:
+-- What is written: a card is read back, so a step's result is again accepted; every card read is so written, and every event line:
 pub mod Accepted
 pub mod Written
+pub mod EventText
+pub mod Rows
 -- A case that was taken:
 pub mod Cases
 -- What is refused, and with which number:

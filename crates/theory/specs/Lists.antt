@@ -1,13 +1,15 @@
--- Members of lists: what appending, mapping, joining and keeping do to them, and members by their places.
+-- Members of lists: what appending, mapping, joining and keeping do to them, members by their places, and runs of members set.
 use Prim.Native.Nat.{ℕ, zero, suc, _+_, _≤_, _<_}
 use mathlib.Core.Path.{_≡_, refl, sym, _∙_, ap, ap₂, subst}
 use mathlib.Core.Bool.{Bool, true, false, not, _||_, true≢false, false≢true}
 use mathlib.Core.List.{List, [], _∷_, _++_, map, map-append, append-assoc, append-nil}
 use mathlib.Core.Logic.{_⊎_, inl, inr, ⊎-elim}
 use native.Mathlib.Omega.{arith}
+use native.Mathlib.Nat.{add-zero, add-suc, suc-add}
 use native.Mathlib.Decide.{ℕ-discrete}
 use lib.Dec.{eqb}
-use lib.ListN.{length, getD, set}
+use lib.ListN.{length, take, getD, set}
+use lib.Seq.{sets, take-set-le}
 use borrow.Author.Tests.{eq-eqb, eqb-true, eqb-false}
 use Rattle.meaning.specs.Text.{In, any, keep, joined, isIn, from}
 use Rattle.meaning.specs.Graph.{without}
@@ -67,6 +69,11 @@ module _ {A B : Type 0} where
   pub map-same : (f g : A → B) (xs : List A) → ((x : A) → In x xs → f x ≡ g x) → map f xs ≡ map g xs
   map-same f g [] h = refl
   map-same f g (x ∷ xs) h = ap₂ (λ a l. a ∷ l) (h x (inl refl)) (map-same f g xs (λ y i. h y (inr i)))
+
+  pub map-set : (f : A → B) (xs : List A) (i : ℕ) (a : A) → map f (set xs i a) ≡ set (map f xs) i (f a)
+  map-set f [] i a = refl
+  map-set f (x ∷ xs) zero a = refl
+  map-set f (x ∷ xs) (suc i) a = ap (λ l. f x ∷ l) (map-set f xs i a)
 
   pub joined-same : (f g : A → List B) (xs : List A) → ((x : A) → In x xs → f x ≡ g x) → joined f xs ≡ joined g xs
   unfolding joined
@@ -295,3 +302,13 @@ set-in (y ∷ xs) zero a x (inl e) = inl e
 set-in (y ∷ xs) zero a x (inr h) = inr (inr h)
 set-in (y ∷ xs) (suc i) a x (inl e) = inr (inl e)
 set-in (y ∷ xs) (suc i) a x (inr h) = ⊎-elim (λ e. inl e) (λ k. inr (inr k)) (set-in xs i a x h)
+
+-- members set behind members that were set
+pub sets-append : (xs ys l : List ℕ) (i : ℕ) → sets (sets l i xs) (i + length xs) ys ≡ sets l i (xs ++ ys)
+sets-append [] ys l i = rw add-zero
+sets-append (x ∷ xs) ys l i = rw (add-suc i (length xs), ← suc-add i (length xs)) (sets-append xs ys (set l i x) (suc i))
+
+-- those below are as they were
+pub take-sets : (n : ℕ) (xs l : List ℕ) (i : ℕ) → n ≤ i → take n (sets l i xs) ≡ take n l
+take-sets n [] l i h = refl
+take-sets n (x ∷ xs) l i h = take-sets n xs (set l i x) (suc i) (omega arith) ∙ take-set-le n l i x h

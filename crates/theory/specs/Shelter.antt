@@ -3,7 +3,7 @@ use Prim.Native.Nat.{ℕ, zero, suc, _+_, _<_}
 use mathlib.Core.Path.{_≡_, refl, sym, _∙_, ap, ap₂}
 use mathlib.Core.Bool.{Bool, true, false, not, _&&_, false≢true}
 use mathlib.Core.List.{List, [], _∷_, _++_}
-use mathlib.Core.Option.{Option, none, some, Option·some-ne-none}
+use mathlib.Core.Option.{Option, none, some, Option·some-ne-none, Option·none-ne-some, Option·some-injective}
 use mathlib.Core.Logic.{inl}
 use native.Mathlib.Omega.{arith}
 use lib.Dec.{eqb}
@@ -23,6 +23,30 @@ abbrev pub nowhere : Status
 nowhere = record { name = []; under = none }
 
 -- ORPHANS BY THEIR PLACES
+
+-- orphans go by what the statuses are
+pub orphan-same : (a b : List Bool) → ((x : ℕ) → is a x ≡ is b x) → (x : ℕ) (ss : List Status) → orphan a x ss ≡ orphan b x ss
+unfolding orphan
+orphan-same a b h x [] = refl
+orphan-same a b h x (s ∷ ss) = go (s .under) (orphan-same a b h (suc x) ss)
+  where
+    pick : (c : Bool) (o : Option ℕ) {p q : Option ℕ} → p ≡ q → _≡_ {A = Option ℕ} (elim c [ true ↦ o | false ↦ p ]) (elim c [ true ↦ o | false ↦ q ])
+    pick true o e = refl
+    pick false o e = e
+
+    go : (u : Option ℕ) → orphan a (suc x) ss ≡ orphan b (suc x) ss → _≡_ {A = Option ℕ} (elim (is a x && shut a u) [ true ↦ some x | false ↦ orphan a (suc x) ss ]) (elim (is b x && shut b u) [ true ↦ some x | false ↦ orphan b (suc x) ss ])
+    go none e = rw (h x) (pick (is b x && false) (some x) e)
+    go (some p) e = rw (h x, h p) (pick (is b x && not (is b p)) (some x) e)
+
+-- an orphan is one of the stages
+pub orphan-below : (side : List Bool) (ss : List Status) (x y : ℕ) → orphan side x ss ≡ some y → y < x + length ss
+unfolding orphan
+orphan-below side [] x y e = absurd (Option·none-ne-some y e)
+orphan-below side (s ∷ ss) x y e = go (is side x && shut side (s .under)) e (orphan-below side ss (suc x) y)
+  where
+    go : (b : Bool) → _≡_ {A = Option ℕ} (elim b [ true ↦ some x | false ↦ orphan side (suc x) ss ]) (some y) → (orphan side (suc x) ss ≡ some y → y < suc x + length ss) → y < x + suc (length ss)
+    go true e ih = let z : x ≡ y = Option·some-injective x y e in omega arith
+    go false e ih = let z = ih e in omega arith
 
 -- the two laws below, of the stages from place x on
 none-from : (side : List Bool) (x : ℕ) (ss : List Status) → orphan side x ss ≡ none

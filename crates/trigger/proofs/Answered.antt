@@ -7,8 +7,8 @@ use native.Mathlib.Omega.{arith}
 use lib.ListN.{length, drop, length-drop}
 use lib.Seq.{drop-drop}
 use Rattle.meaning.specs.Reading.{got, wrong, Reader}
-use Rattle.condition.proofs.Told.{Told}
-use Rattle.condition.proofs.Kept.{took}
+use Rattle.theory.specs.Told.{Told}
+use Rattle.theory.specs.Told.{took}
 use Rattle.trigger.specs.Answers.{asRead}
 
 -- what stands m bytes on, and n further

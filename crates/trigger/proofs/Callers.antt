@@ -7,7 +7,7 @@ use Rattle.meaning.specs.Reading.{wrong, give, choose, stands}
 use Rattle.meaning.specs.Name.{Name}
 use Rattle.meaning.specs.Sheet as M
 use Rattle.meaning.specs.ReadSheet.{trigger}
-use Rattle.condition.proofs.Told.{Told, Any, told-give, told-choose, told-bind, told-stands}
+use Rattle.theory.specs.Told.{Told, Any, told-give, told-choose, told-bind, told-stands}
 use Rattle.trigger.specs.declared.Start.{Start}
 use Rattle.trigger.specs.declared.StartRead.{StartRead}
 use Rattle.trigger.specs.declared.StartRead.the-variants as S

@@ -21,7 +21,7 @@ use Rattle.text.specs.Answers.{asKnown}
 use Rattle.text.specs.declared.Known.{Known}
 use Rattle.text.specs.declared.Known.the-variants as K
 use Rattle.text.proofs.Callers.{begins-fits, stands-here, stands-not, known-got, known-wrong, known-place, known-fits, known-few}
-use Rattle.condition.proofs.Told.{Told, Any, told-give, told-choose, told-bind, told-stands, told-oneOf}
+use Rattle.theory.specs.Told.{Told, Any, told-give, told-choose, told-bind, told-stands, told-oneOf}
 use Rattle.trigger.specs.declared.Trigger.{Trigger}
 use Rattle.trigger.specs.declared.Trigger.the-variants.{Always, Event, Rise, Fall}
 use Rattle.trigger.specs.declared.SignRead.{SignRead}

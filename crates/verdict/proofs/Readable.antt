@@ -18,34 +18,9 @@ use Rattle.meaning.specs.Condition.{Leaf, Cond, And, Item, leavesC, leavesA, le
 use Rattle.meaning.specs.ReadCondition.{operator, named, readLeaf, readAnd, readCond, itemWith, readItem, condition}
 use Rattle.theory.specs.Lists.{in-cases}
 use Rattle.theory.specs.Readers.{Ensures, give-ensures, refuse-ensures, choose-ensures, bind-ensures, any-ensures, ensures-weaker, ensures-both}
-use Rattle.theory.specs.Entries.{number-wrote, digits-range, digit-first, place-some}
+use Rattle.theory.specs.Entries.{number-most}
 use Rattle.theory.specs.Conditions.{LeafIn, condition-in}
 use Rattle.verdict.specs.Fits.{DeepC, DeepA, DeepI, OnScale, Fits}
-
--- NUMBERS
-
--- digits that have a value stand for one in the range
-digits-most : (ds : List ℕ) (v : ℕ) → run digit ds ≡ length ds → digits ds ≡ some v → v ≤ middle
-unfolding digits
-digits-most [] v f e = absurd (Option·none-ne-some v e)
-digits-most (d ∷ []) v f e = let i = Option·some-injective (d - 48) v e in omega (arith, i, digit-first d [] f .1)
-digits-most (d ∷ x ∷ ds) v f e = let (a, b, c) = digits-range d x ds v e in omega (arith, b, c)
-
--- and a place is at most the highest
-place-most : (minus : Bool) (x v : ℕ) → x ≤ middle → place minus (some x) ≡ some v → v ≤ limit
-unfolding place
-place-most false x v h e = let i = Option·some-injective (middle + x) v e in omega (arith, i)
-place-most true x v h e = go (eqb x 0) e
-  where
-    go : (b : Bool) → _≡_ {A = Option ℕ} (cond b none (some (middle - x))) (some v) → v ≤ limit
-    go true e = absurd (Option·none-ne-some v e)
-    go false e = let i = Option·some-injective (middle - x) v e in omega (arith, i)
-
--- whatever is read as a number
-number-most : Ensures number (λ n. n .at ≤ limit)
-number-most = ensures-weaker (λ n w.
-    let (x, e) = place-some (w .minus) (digits (w .ds)) (n .at) (w .means .place) in
-    place-most (w .minus) x (n .at) (digits-most (w .ds) x (w .means .full) e) (rw e at (w .means .place))) number-wrote
 
 -- LEAVES
 

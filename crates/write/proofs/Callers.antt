@@ -21,107 +21,52 @@ use Rattle.meaning.specs.Card.{Put, readCard, readEvent, carriedBy}
 use Rattle.meaning.specs.Step.{putIn}
 use Rattle.meaning.specs.Write.{line, lines, mark, cardText}
 use Rattle.theory.specs.Lists.{Once, from-length}
-use Rattle.theory.specs.Formed.{Each, EventIn, Well}
-use Rattle.theory.specs.Cards.{CardIn, HappeningIn}
-use Rattle.theory.specs.Papers.{card-holds, event-holds}
-use Rattle.theory.specs.Written.{readCard-text}
-use Rattle.write.proofs.EventText.{putText, eventText, happening-text}
+use Rattle.theory.specs.Formed.{Well}
+use Rattle.theory.specs.Cards.{CardIn}
+use Rattle.theory.specs.Papers.{card-holds}
+use Rattle.theory.specs.Accepted.{put-length}
+use Rattle.theory.specs.Rows.{Rows, row-value, row-next, card-at, event-at, once}
 use Rattle.text.specs.declared.Found.{Found}
 use Rattle.text.specs.declared.Found.the-variants as F
 use Rattle.text.specs.Answers.{foundIn, further}
 use Rattle.text.proofs.Callers.{found-within}
+use Rattle.text.proofs.Laws.{found-here, found-later}
 use Rattle.tables.specs.Heads.{padded}
+use Rattle.tables.proofs.Padded.{behind-at, padded-take}
+use Rattle.space.specs.Answers.{isYes}
 use Rattle.card.specs.declared.Card.{Card}
-use Rattle.card.specs.declared.Happening.{Happening}
-use Rattle.card.specs.Answers.{markCode, valuePlaces, asCard, asHappening}
-use Rattle.write.specs.Texts.{part, shownBy, valueText, showing, isYes, nextText}
-use Rattle.write.proofs.Laws.{line-long}
+use Rattle.event.specs.declared.Happening.{Happening}
+use Rattle.card.specs.Answers.{markCode, valuePlaces, asCard}
+use Rattle.event.specs.Answers.{asHappening}
+use Rattle.write.specs.Texts.{part, shownBy, valueText, showing, nextText}
 
 -- ARRAYS
 
-padded-at : (n : ℕ) (xs : List ℕ) (i : ℕ) → i < length xs → getD (padded n 0 xs) i 0 ≡ getD xs i 0
-unfolding padded
-padded-at n xs i h = List·getD-append xs (replicate (n - length xs) 0) 0 i h
+padded-all : (n : ℕ) (xs : List ℕ) (k : ℕ) → k ≡ length xs → take k (padded n 0 xs) ≡ xs
+padded-all n xs k e = rw e (padded-take n 0 xs)
 
-padded-take : (n : ℕ) (xs : List ℕ) (k : ℕ) → k ≡ length xs → take k (padded n 0 xs) ≡ xs
-unfolding padded
-padded-take n xs k e = take-at xs (replicate (n - length xs) 0) k (sym e)
-
--- ROWS: each a name, `=`, a value's text and one byte
-
-abbrev Rows : List ℕ → List Name → List Entry → Type 0
-Rows t [] es = Unit {0}
-Rows t (n ∷ ns) [] = Unit {0}
-Rows t (n ∷ ns) (e ∷ es) = (b : ℕ) × (u : List ℕ) × (t ≡ n ++ text "=" ++ e .shown ++ (b ∷ u)) × Rows u ns es
-
+-- where the texts stand
 module _ (s : List ℕ) where
-  -- behind a name and its `=`, and behind the whole row
-  row-value : (p : ℕ) (n v : List ℕ) (b : ℕ) (u : List ℕ) → drop p s ≡ n ++ text "=" ++ v ++ (b ∷ u) → drop (p + length n + 1) s ≡ v ++ (b ∷ u)
-  row-value p n v b u e =
-      let z : p + length n + 1 ≡ p + length (n ++ text "=") = omega (arith, length-append n (text "=")) in
-      rw (z, ← drop-drop (length (n ++ text "=")) p s, e, append-assoc (n ++ text "=") v (b ∷ u)) (drop-at (n ++ text "=") (v ++ (b ∷ u)) (length (n ++ text "=")) refl)
-
-  row-next : (p : ℕ) (n v : List ℕ) (b : ℕ) (u : List ℕ) → drop p s ≡ n ++ text "=" ++ v ++ (b ∷ u) → drop (p + length n + 1 + length v + 1) s ≡ u
-  row-next p n v b u e =
-      let z : p + length n + 1 + length v + 1 ≡ p + length n + 1 + length (v ++ (b ∷ [])) = omega (arith, length-append v (b ∷ [])) in
-      rw (z, ← drop-drop (length (v ++ (b ∷ []))) (p + length n + 1) s, row-value p n v b u e, ← append-assoc v (b ∷ []) u) (drop-at (v ++ (b ∷ [])) u (length (v ++ (b ∷ []))) refl)
-
-  -- where the texts stand
   places-shown : (d : Entry) (ns : List Name) (es : List Entry) (p i : ℕ) → Rows (drop p s) ns es → length ns ≡ length es → i < length es
       → part s (getD (valuePlaces p ns es) i 0) (length (getD es i d .shown)) ≡ getD es i d .shown
   unfolding valuePlaces
   places-shown d ns [] p i r l h = absurd (omega arith)
   places-shown d [] (e ∷ es) p i r l h = absurd (omega arith)
   places-shown d (n ∷ ns) (e ∷ es) p zero (b, u, q, r) l h =
-      rw (row-value p n (e .shown) b u q) (take-at (e .shown) (b ∷ u) (length (e .shown)) refl)
+      rw (row-value s p n (e .shown) b u q) (take-at (e .shown) (b ∷ u) (length (e .shown)) refl)
   places-shown d (n ∷ ns) (e ∷ es) p (suc i) (b, u, q, r) l h =
-      places-shown d ns es (p + length n + 1 + length (e .shown) + 1) i (subst (λ t. Rows t ns es) (sym (row-next p n (e .shown) b u q)) r) (omega arith) (omega arith)
-
-places-long : (ns : List Name) (es : List Entry) (p : ℕ) → length ns ≡ length es → length (valuePlaces p ns es) ≡ length es
-unfolding valuePlaces
-places-long [] [] p l = refl
-places-long [] (e ∷ es) p l = absurd (omega arith)
-places-long (n ∷ ns) [] p l = absurd (omega arith)
-places-long (n ∷ ns) (e ∷ es) p l = ap suc (places-long ns es (p + length n + 1 + length (e .shown) + 1) (omega arith))
-
--- the rows of a card
-card-rows : (ns : List Name) (es : List Entry) (rest : List ℕ) → Rows (lines (λ (e : Entry). e .shown) ns es ++ rest) ns es
-unfolding lines line
-card-rows [] es rest = tt
-card-rows (n ∷ ns) [] rest = tt
-card-rows (n ∷ ns) (e ∷ es) rest =
-    let more = lines (λ (e : Entry). e .shown) ns es in
-    (10, more ++ rest, append-assoc (n ++ text "=" ++ e .shown ++ text "\n") more rest ∙ append-assoc (n ++ text "=" ++ e .shown) (text "\n") (more ++ rest), card-rows ns es rest)
-
--- the rows of an event line, behind one byte
-event-rows : (sh : Sheet) (ps : List Put)
-    → (b : ℕ) × (u : List ℕ) × (joined (putText sh) ps ++ text "\n" ≡ b ∷ u) × Rows u (map (λ p. getD (sh .fields) (p .field) []) ps) (map (λ p. p .entry) ps)
-unfolding joined putText
-event-rows sh [] = (10, [], refl, tt)
-event-rows sh (p ∷ ps) =
-    let (b, u, q, r) = event-rows sh ps in
-    let row = getD (sh .fields) (p .field) [] ++ text "=" ++ p .entry .shown in
-    (32, row ++ (b ∷ u), ap (λ t. 32 ∷ t) (append-assoc row (joined (putText sh) ps) (text "\n") ∙ ap (λ t. row ++ t) q), (b, u, refl, r))
+      places-shown d ns es (p + length n + 1 + length (e .shown) + 1) i (subst (λ t. Rows t ns es) (sym (row-next s p n (e .shown) b u q)) r) (omega arith) (omega arith)
 
 -- WHAT IS PUT IN
 
-found-cases : (w v : ℕ) (vs : List ℕ) → Dec (v ≡ w) → Type 0
-found-cases w v vs (yes e) = foundIn w (v ∷ vs) ≡ F.At 0
-found-cases w v vs (no e) = foundIn w (v ∷ vs) ≡ further (foundIn w vs)
-
-found-step : (w v : ℕ) (vs : List ℕ) (d : Dec (v ≡ w)) → found-cases w v vs d
-unfolding foundIn found-cases
-found-step w v vs (yes e) = rw (eq-eqb v w e, foundIn)
-found-step w v vs (no e) = rw (ne-eqb v w e, foundIn)
-
 -- what is not among them is not found
 found-none : (w : ℕ) (vs : List ℕ) → (In w vs → ⊥) → foundIn w vs ≡ F.Nothing
-unfolding foundIn found-cases
+unfolding foundIn
 found-none w [] h = refl
-found-none w (v ∷ vs) h = found-step w v vs (no (λ e. h (inl (sym e)))) ∙ ap further (found-none w vs (λ i. h (inr i)))
+found-none w (v ∷ vs) h = found-later w v vs (λ e. h (inl (sym e))) ∙ ap further (found-none w vs (λ i. h (inr i)))
 
 put-kept : (d : Entry) (f : ℕ) (ps : List Put) (es : List Entry) → foundIn f (map (λ p. p .field) ps) ≡ F.Nothing → getD (putIn ps es) f d ≡ getD es f d
-unfolding putIn found-cases
+unfolding putIn
 put-kept d f [] es h = refl
 put-kept d f (p ∷ ps) es h = go (ℕ-discrete (p .field) f) (foundIn f (map (λ p. p .field) ps)) refl (put-kept d f ps (set es (p .field) (p .entry)))
   where
@@ -129,18 +74,18 @@ put-kept d f (p ∷ ps) es h = go (ℕ-discrete (p .field) f) (foundIn f (map (�
         → (foundIn f (map (λ p. p .field) ps) ≡ F.Nothing → getD (putIn ps (set es (p .field) (p .entry))) f d ≡ getD (set es (p .field) (p .entry)) f d)
         → getD (putIn ps (set es (p .field) (p .entry))) f d ≡ getD es f d
     go (yes e) x q ih =
-        let y = found-step f (p .field) (map (λ p. p .field) ps) (yes e) in
+        let y = found-here f (p .field) (map (λ p. p .field) ps) e in
         let z : _≡_ {A = ℕ} 0 1 = cc in
         absurd (omega arith)
     go (no e) F.Nothing q ih = ih q ∙ getD-set-other es (p .field) f (p .entry) d (λ z. e (sym z))
     go (no e) (F.At i) q ih =
-        let y = found-step f (p .field) (map (λ p. p .field) ps) (no e) ∙ ap further q in
+        let y = found-later f (p .field) (map (λ p. p .field) ps) e ∙ ap further q in
         let z : _≡_ {A = ℕ} 0 1 = cc in
         absurd (omega arith)
 
 put-found : (d : Entry) (q : Put) (f : ℕ) (ps : List Put) (es : List Entry) (i : ℕ) → f < length es → Once (map (λ p. p .field) ps)
     → foundIn f (map (λ p. p .field) ps) ≡ F.At i → getD (putIn ps es) f d ≡ getD ps i q .entry
-unfolding putIn foundIn found-cases
+unfolding putIn foundIn
 put-found d q f [] es i l o h =
     let z : _≡_ {A = ℕ} 0 1 = cc in
     absurd (omega arith)
@@ -151,28 +96,17 @@ put-found d q f (p ∷ ps) es i l o h = go (ℕ-discrete (p .field) f) (foundIn 
         → ((j : ℕ) → foundIn f (map (λ p. p .field) ps) ≡ F.At j → getD (putIn ps (set es (p .field) (p .entry))) f d ≡ getD ps j q .entry)
         → getD (putIn ps (set es (p .field) (p .entry))) f d ≡ getD (p ∷ ps) i q .entry
     go (yes e) x y i h ih =
-        let first = found-step f (p .field) (map (λ p. p .field) ps) (yes e) in
+        let first = found-here f (p .field) (map (λ p. p .field) ps) e in
         let z : 0 ≡ i = cc in
         rw (← z) (put-kept d f ps (set es (p .field) (p .entry)) (found-none f (map (λ p. p .field) ps) (λ m. o .0 (rw e m))) ∙ rw e (getD-set-same es f (p .entry) d l))
     go (no e) F.Nothing y i h ih =
-        let next = found-step f (p .field) (map (λ p. p .field) ps) (no e) ∙ ap further y in
+        let next = found-later f (p .field) (map (λ p. p .field) ps) e ∙ ap further y in
         let z : _≡_ {A = ℕ} 0 1 = cc in
         absurd (omega arith)
     go (no e) (F.At j) y i h ih =
-        let next = found-step f (p .field) (map (λ p. p .field) ps) (no e) ∙ ap further y in
+        let next = found-later f (p .field) (map (λ p. p .field) ps) e ∙ ap further y in
         let z : suc j ≡ i = cc in
         rw (← z) (ih j y)
-
-put-long : (ps : List Put) (es : List Entry) → length (putIn ps es) ≡ length es
-unfolding putIn
-put-long [] es = refl
-put-long (p ∷ ps) es = put-long ps (set es (p .field) (p .entry)) ∙ length-set es (p .field) (p .entry)
-
--- an event carries a field once
-carries-once : (m : ℕ) (es : List Event) → Each (EventIn m) es → (i : ℕ) → Once (getD es i (record { name = []; carries = [] }) .carries)
-carries-once m [] h i = tt
-carries-once m (e ∷ es) h zero = h e (inl refl) .once
-carries-once m (e ∷ es) h (suc i) = carries-once m es (λ x j. h x (inr j)) i
 
 -- A CASE THAT WAS TAKEN
 
@@ -180,12 +114,16 @@ carries-once m (e ∷ es) h (suc i) = carries-once m es (λ x j. h x (inr j)) i
 module _ (s : List ℕ) (d : Entry) (ns : List Name) (es : List Entry) (p : ℕ) (rows : Rows (drop p s) ns es) (long : length ns ≡ length es) where
   shown-at : (i : ℕ) → i < length es
       → part s (getD (padded 16 0 (valuePlaces p ns es)) i 0) (getD (padded 16 0 (map (λ (e : Entry). length (e .shown)) es)) i 0) ≡ getD es i d .shown
+  unfolding padded
   shown-at i h =
-      let a = padded-at 16 (valuePlaces p ns es) i (omega (arith, places-long ns es p long)) in
-      let b = padded-at 16 (map (λ (e : Entry). length (e .shown)) es) i (omega (arith, length-map es (λ (e : Entry). length (e .shown)))) in
+      let a = held (valuePlaces p ns es) i in
+      let b = held (map (λ (e : Entry). length (e .shown)) es) i in
       let n : getD (map (λ (e : Entry). length (e .shown)) es) i 0 ≡ length (getD es i d .shown) = getD-of i es h in
       rw (a, b, n) (places-shown s d ns es p i rows long h)
     where
+      held : (xs : List ℕ) (i : ℕ) → getD (padded 16 0 xs) i 0 ≡ getD xs i 0
+      held xs i = behind-at 0 (16 - length xs) xs i
+
       getD-of : (i : ℕ) (es : List Entry) → i < length es → getD (map (λ (e : Entry). length (e .shown)) es) i 0 ≡ length (getD es i d .shown)
       getD-of i [] h = absurd (omega arith)
       getD-of zero (e ∷ es) h = refl
@@ -212,52 +150,23 @@ module _ (sh : Sheet) (well : Well sh) (sc se : List ℕ) (mc : M.Card) (mh : M.
   card-in : CardIn sh mc
   card-in = card-holds sh sc mc card-taken .0
 
-  event-in : HappeningIn sh mh
-  event-in = event-holds sh se well mh event-taken
-
-  -- the rows of the card, behind its first line
-  card-at : Rows (drop (5 + length (sh .model) + 1) sc) (sh .fields) (mc .entries)
-  unfolding cardText
-  card-at =
-      let first = line (text "case") (sh .model) in
-      let fields = lines (λ (e : Entry). e .shown) (sh .fields) (mc .entries) in
-      let marks = lines mark (statusNames (statuses sh)) (mc .statuses) in
-      let end = line (text "end") (decimal (length (mc .entries) + length (mc .statuses))) in
-      let whole : sc ≡ first ++ (fields ++ (marks ++ end)) = readCard-text sh well sc mc card-taken ∙ append-assoc (first ++ fields) marks end ∙ append-assoc first fields (marks ++ end) in
-      let long : length first ≡ 5 + length (sh .model) + 1 = omega (arith, line-long (text "case") (sh .model)) in
-      subst (λ t. Rows t (sh .fields) (mc .entries)) (sym (rw whole (drop-at first (fields ++ (marks ++ end)) (5 + length (sh .model) + 1) long))) (card-rows (sh .fields) (mc .entries) (marks ++ end))
-
-  -- the rows of the event line, behind the event's name and a space
-  event-at : Rows (drop (length (getD (eventNames (sh .events)) (mh .event) []) + 1) se) (map (λ p. getD (sh .fields) (p .field) []) (mh .puts)) (map (λ p. p .entry) (mh .puts))
-  unfolding eventText
-  event-at =
-      let name = getD (eventNames (sh .events)) (mh .event) [] in
-      let (b, u, q, r) = event-rows sh (mh .puts) in
-      let whole : se ≡ name ++ (b ∷ []) ++ u = happening-text sh se mh event-taken ∙ append-assoc name (joined (putText sh) (mh .puts)) (text "\n") ∙ ap (λ t. name ++ t) q ∙ sym (append-assoc name (b ∷ []) u) in
-      let long : length (name ++ (b ∷ [])) ≡ length name + 1 = length-append name (b ∷ []) in
-      subst (λ t. Rows t (map (λ p. getD (sh .fields) (p .field) []) (mh .puts)) (map (λ p. p .entry) (mh .puts))) (sym (rw whole (drop-at (name ++ (b ∷ [])) u (length name + 1) long))) r
-
-  once : Once (map (λ p. p .field) (mh .puts))
-  unfolding carriedBy
-  once = rw (event-in .carried) (carries-once (length (sh .fields)) (sh .events) (well .events) (mh .event))
-
   module _ (d : Entry) (f : ℕ) (within : f < length (sh .fields)) where
     value-is : valueText se sc (asHappening sh mh) (asCard sh mc) f ≡ getD (putIn (mh .puts) (mc .entries)) f d .shown
     unfolding valueText asHappening asCard
     value-is =
-        rw (padded-take 16 (map (λ p. p .field) (mh .puts)) (length (mh .puts)) (sym (length-map (mh .puts) (λ p. p .field))))
+        rw (padded-all 16 (map (λ p. p .field) (mh .puts)) (length (mh .puts)) (sym (length-map (mh .puts) (λ p. p .field))))
         (go (foundIn f (map (λ p. p .field) (mh .puts))) refl)
       where
         go : (x : Found) → foundIn f (map (λ p. p .field) (mh .puts)) ≡ x → shownBy se sc (asHappening sh mh) (asCard sh mc) f x ≡ getD (putIn (mh .puts) (mc .entries)) f d .shown
         go (F.At i) q =
             let few : i < length (mh .puts) = omega (arith, found-within f (map (λ p. p .field) (mh .puts)) i q, length-map (mh .puts) (λ (p : Put). p .field)) in
-            shown-at se d (map (λ p. getD (sh .fields) (p .field) []) (mh .puts)) (map (λ p. p .entry) (mh .puts)) (length (getD (eventNames (sh .events)) (mh .event) []) + 1) event-at
+            shown-at se d (map (λ p. getD (sh .fields) (p .field) []) (mh .puts)) (map (λ p. p .entry) (mh .puts)) (length (getD (eventNames (sh .events)) (mh .event) []) + 1) (event-at sh well se mh event-taken)
             (length-map (mh .puts) (λ (p : Put). getD (sh .fields) (p .field) []) ∙ sym (length-map (mh .puts) (λ (p : Put). p .entry)))
             i (omega (arith, length-map (mh .puts) (λ (p : Put). p .entry)))
             ∙ ap (λ (e : Entry). e .shown) (List·getD-map (λ (p : Put). p .entry) (mh .puts) i (record { field = 0; entry = d })
-            ∙ sym (put-found d (record { field = 0; entry = d }) f (mh .puts) (mc .entries) i (omega (arith, card-in .entries)) once q))
+            ∙ sym (put-found d (record { field = 0; entry = d }) f (mh .puts) (mc .entries) i (omega (arith, card-in .entries)) (once sh well se mh event-taken) q))
         go F.Nothing q =
-            shown-at sc d (sh .fields) (mc .entries) (5 + length (sh .model) + 1) card-at (sym (card-in .entries)) f (omega (arith, card-in .entries))
+            shown-at sc d (sh .fields) (mc .entries) (5 + length (sh .model) + 1) (card-at sh well sc mc card-taken) (sym (card-in .entries)) f (omega (arith, card-in .entries))
             ∙ ap (λ (e : Entry). e .shown) (sym (put-kept d f (mh .puts) (mc .entries) q))
 
   module _ (c : Card) (e : Happening) (c-is : c ≡ asCard sh mc) (e-is : e ≡ asHappening sh mh) where
@@ -272,9 +181,9 @@ module _ (sh : Sheet) (well : Well sh) (sc se : List ℕ) (mc : M.Card) (mh : M.
     next-after after h =
         let es = putIn (mh .puts) (mc .entries) in
         let d : Entry = showing [] in
-        let many : length (sh .fields) ≡ length es = sym (put-long (mh .puts) (mc .entries) ∙ card-in .entries) in
+        let many : length (sh .fields) ≡ length es = sym (put-length (mh .puts) (mc .entries) ∙ card-in .entries) in
         let marks : map isYes (take (length (statuses sh)) (padded 32 0 (map markCode after))) ≡ after
-        = ap (map isYes) (padded-take 32 (map markCode after) (length (statuses sh)) (sym (length-map after markCode ∙ h))) ∙ marks-back after in
+        = ap (map isYes) (padded-all 32 (map markCode after) (length (statuses sh)) (sym (length-map after markCode ∙ h))) ∙ marks-back after in
         let fields = lines-shown d (valueText se sc e c) (sh .fields) es 0 many (λ k g. let z : 0 + k ≡ k = omega arith in rw z (value-after d k (omega arith))) in
         let count : length (map (λ f. showing (valueText se sc e c f)) (from 0 (length (sh .fields)))) ≡ length es
         = length-map (from 0 (length (sh .fields))) (λ f. showing (valueText se sc e c f)) ∙ from-length (length (sh .fields)) 0 ∙ many in

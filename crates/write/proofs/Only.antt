@@ -17,9 +17,10 @@ use Rattle.lines.specs.declared.MarkPiece.{MarkPiece}
 use Rattle.lines.specs.Answers.{bytesFault, spaced, caseLine, asValue, asMark}
 use Rattle.card.specs.declared.Card.{Card}
 use Rattle.card.specs.declared.CardRead.{CardRead}
-use Rattle.card.specs.declared.Happening.{Happening}
-use Rattle.card.specs.declared.EventRead.{EventRead}
-use Rattle.card.specs.Answers.{asCardRead, asEventRead}
+use Rattle.event.specs.declared.Happening.{Happening}
+use Rattle.event.specs.declared.EventRead.{EventRead}
+use Rattle.card.specs.Answers.{asCardRead}
+use Rattle.event.specs.Answers.{asEventRead}
 use Rattle.write.specs.declared.Written.{Written}
 use Rattle.write.specs.Texts.{valueText, nextText}
 use Rattle.write.specs.Answers.{asWritten, spaceWith}

@@ -4,20 +4,21 @@ use mathlib.Core.List.{List, [], _∷_, _++_}
 use Prim.Native.Nat.{ℕ, suc, _+_, _-_, _*_, _<_, _≤_, min}
 use native.Mathlib.Omega.{arith}
 use native.Mathlib.Numerals.{add-one}
-use borrow.Author.Tests.{eq-eqb, ne-eqb}
 use lib.ListN.{length, drop, take, getD, length-drop, length-append, length-take, drop-of-length-le, List·getD-eq-default}
 use lib.Seq.{drop-cons, take-all, take-nil, getD-take, getD-drop}
 use Rattle.meaning.specs.Write.{line, mark}
+use Rattle.theory.specs.Accepted.{line-length}
 use Rattle.text.specs.Packed.{named}
-use Rattle.text.specs.Answers.{foundIn, further}
+use Rattle.text.specs.Answers.{foundIn}
 use Rattle.text.specs.declared.Found.{Found}
 use Rattle.text.specs.declared.Found.the-variants as F
-use Rattle.text.proofs.Laws.{shifted}
+use Rattle.text.proofs.Laws.{shifted, found-here, found-later, shifted-suc}
 use Rattle.card.specs.declared.Card.{Card}
-use Rattle.card.specs.declared.Happening.{Happening}
-use Rattle.write.specs.Texts.{part, isYes, shownBy, valueText}
-use Rattle.write.specs.Lines.{Wrote, markAt, linesFrom}
-use Rattle.write.proofs.Laws.{Left, left-start, left-room, left-more, left-end, left-long, line-long}
+use Rattle.event.specs.declared.Happening.{Happening}
+use Rattle.write.specs.Texts.{part, shownBy, valueText}
+use Rattle.space.specs.Answers.{Wrote, isYes}
+use Rattle.write.specs.Lines.{markAt, linesFrom}
+use Rattle.space.proofs.Laws.{Left, left-start, left-room, left-more, left-end, left-long}
 
 -- THE TEXT OF A FIELD
 
@@ -63,19 +64,6 @@ value-short event card e c f v y h g = rw y (go (foundIn f (take (e .count) (e .
     go F.Nothing = omega (arith, length-take (getD (c .lengths) f 0) (drop (getD (c .starts) f 0) card), length-drop (getD (c .starts) f 0) card)
 
 -- the search for a field at the cursor i
-found-here : (w v : ℕ) (vs : List ℕ) → v ≡ w → foundIn w (v ∷ vs) ≡ F.At 0
-unfolding foundIn
-found-here w v vs e = rw (eq-eqb v w e, foundIn)
-
-found-later : (w v : ℕ) (vs : List ℕ) → (v ≡ w → ⊥) → foundIn w (v ∷ vs) ≡ further (foundIn w vs)
-unfolding foundIn
-found-later w v vs e = rw (ne-eqb v w e, foundIn)
-
-shifted-suc : (k : ℕ) (f : Found) → shifted k (further f) ≡ shifted (k + 1) f
-unfolding shifted
-shifted-suc k (F.At i) = ap (λ n. F.At n) (omega arith)
-shifted-suc k F.Nothing = refl
-
 pub carried-start : (f : Found) → f ≡ shifted 0 f
 unfolding shifted
 carried-start (F.At i) = ap (λ n. F.At n) (omega arith)
@@ -103,99 +91,81 @@ module _ (w n : ℕ) (l : List ℕ) (i : ℕ) (v : foundIn w (take n l) ≡ shif
     carried-here e = sym (v ∙ rw (carried-left, found-here w _ _ e) (ap (λ n. F.At n) (omega arith)))
 
     pub carried-more : (getD l i 0 ≡ w → ⊥) → (j : ℕ) → j ≡ i + 1 → foundIn w (take n l) ≡ shifted j (foundIn w (drop j (take n l)))
-    carried-more e j z = rw z (v ∙ rw (carried-left, found-later w _ _ e) (shifted-suc i _))
+    carried-more e j z = rw z (v ∙ rw (carried-left, found-later w _ _ e) (rw add-one (shifted-suc i _)))
 
 pub ruleset carrying = (carried-start, carried-over, carried-none, carried-here, carried-more)
 
--- LINES
+-- LINES: one for each name of a table, with the text of its place
+module _ (t : ℕ → List ℕ) (ws : List ℕ) where
+  abbrev rowsFrom : ℕ → List ℕ
+  rowsFrom i = linesFrom t (drop i ws) i
 
--- of one more name
-rows-step : (t : ℕ → List ℕ) (ws : List ℕ) (i w : ℕ) (v : List ℕ) → i < length ws → w ≡ getD ws i 0 → v ≡ t i
-    → linesFrom t (drop i ws) i ≡ line (named w) v ++ linesFrom t (drop (i + 1) ws) (i + 1)
-unfolding linesFrom
-rows-step t ws i w v h e q = rw (add-one, drop-cons ws i 0 h, e, q)
+  rows-over : (i : ℕ) → length ws ≤ i → rowsFrom i ≡ []
+  unfolding linesFrom
+  rows-over i h = rw (drop-of-length-le ws h)
 
-rows-over : (t : ℕ → List ℕ) (ws : List ℕ) (i : ℕ) → length ws ≤ i → linesFrom t (drop i ws) i ≡ []
-unfolding linesFrom
-rows-over t ws i h = rw (drop-of-length-le ws h)
+  rows-step : (i w : ℕ) (v : List ℕ) → i < length ws → w ≡ getD ws i 0 → v ≡ t i → rowsFrom i ≡ line (named w) v ++ rowsFrom (i + 1)
+  unfolding linesFrom
+  rows-step i w v h e q = rw (add-one, drop-cons ws i 0 h, e, q)
 
--- the lines of the fields
-module _ (event card : List ℕ) (e : Happening) (c : Card) (names : List ℕ) (n : ℕ) (held : n ≤ length names) where
-  abbrev fieldsFrom : ℕ → List ℕ
-  fieldsFrom f = linesFrom (valueText event card e c) (drop f (take n names)) f
+  -- written
+  module _ (at₀ : ℕ) (o₀ : List ℕ) (at i : ℕ) (o : List ℕ) (l : Left at₀ (linesFrom t ws 0) o₀ at (rowsFrom i) o) where
+    pub rows-end : length ws ≤ i → Wrote at₀ (linesFrom t ws 0) o₀ o at
+    rows-end h = left-end at₀ _ o₀ at (rowsFrom i) o l (rows-over i h)
 
-  -- all written, all measured
-  pub fields-end : (at₀ : ℕ) (o₀ : List ℕ) (at f : ℕ) (o : List ℕ) → Left at₀ (linesFrom (valueText event card e c) (take n names) 0) o₀ at (fieldsFrom f) o
-      → n ≤ f → Wrote at₀ (linesFrom (valueText event card e c) (take n names) 0) o₀ o at
-  fields-end at₀ o₀ at f o l h = left-end at₀ _ o₀ at (fieldsFrom f) o l (rows-over (valueText event card e c) (take n names) f (omega (arith, length-take n names)))
+    module _ (w : ℕ) (v : List ℕ) (here : i < length ws) (name : w ≡ getD ws i 0) (text : v ≡ t i) where
+      pub rows-room : at + length (line (named w) v) ≤ length o
+      rows-room = left-room at₀ _ o₀ at (rowsFrom i) o l (line (named w) v) (rowsFrom (i + 1)) (rows-step i w v here name text)
 
-  pub fields-measured : (k f : ℕ) → k + length (fieldsFrom f) ≡ length (linesFrom (valueText event card e c) (take n names) 0)
-      → n ≤ f → k ≡ length (linesFrom (valueText event card e c) (take n names) 0)
-  fields-measured k f inv h = omega (arith, ap length (rows-over (valueText event card e c) (take n names) f (omega (arith, length-take n names))))
+      pub rows-more : (o1 : List ℕ) (b : ℕ) → Wrote at (line (named w) v) o o1 b → (j : ℕ) → j ≡ i + 1 → Left at₀ (linesFrom t ws 0) o₀ b (rowsFrom j) o1
+      rows-more o1 b y j z = rw z (left-more at₀ _ o₀ at (rowsFrom i) o l (line (named w) v) (rowsFrom (i + 1)) (rows-step i w v here name text) o1 b y)
 
-  module _ (f : ℕ) (here : f < n) (v : List ℕ) (text : v ≡ valueText event card e c f) where
-    fields-step : fieldsFrom f ≡ line (named (getD names f 0)) v ++ fieldsFrom (f + 1)
-    fields-step =
-        rows-step (valueText event card e c) (take n names) f (getD names f 0) v (omega (arith, length-take n names)) (sym (getD-take n names f 0 here)) text
+  -- measured
+  module _ (k i : ℕ) (inv : k + length (rowsFrom i) ≡ length (linesFrom t ws 0)) where
+    pub rows-measured : length ws ≤ i → k ≡ length (linesFrom t ws 0)
+    rows-measured h = omega (arith, ap length (rows-over i h))
 
-    module _ (at₀ : ℕ) (o₀ : List ℕ) (at : ℕ) (o : List ℕ) (l : Left at₀ (linesFrom (valueText event card e c) (take n names) 0) o₀ at (fieldsFrom f) o) where
-      pub fields-room : at + length (line (named (getD names f 0)) v) ≤ length o
-      fields-room = left-room at₀ _ o₀ at (fieldsFrom f) o l (line (named (getD names f 0)) v) (fieldsFrom (f + 1)) fields-step
+    module _ (w : ℕ) (v : List ℕ) (m : ℕ) where
+      pub rows-add : m ≡ length (line (named w) v) → i < length ws → w ≡ getD ws i 0 → v ≡ t i → (j a : ℕ) → j ≡ i + 1 → a ≡ k + m → a + length (rowsFrom j) ≡ length (linesFrom t ws 0)
+      rows-add e here name text j a z y = rw z (omega (arith, ap length (rows-step i w v here name text), length-append (line (named w) v) (rowsFrom (i + 1))))
 
-      pub fields-more : (o1 : List ℕ) (b : ℕ) → Wrote at (line (named (getD names f 0)) v) o o1 b → (j : ℕ) → j ≡ f + 1
-          → Left at₀ (linesFrom (valueText event card e c) (take n names) 0) o₀ b (fieldsFrom j) o1
-      fields-more o1 b y j z = rw z (left-more at₀ _ o₀ at (fieldsFrom f) o l (line (named (getD names f 0)) v) (fieldsFrom (f + 1)) fields-step o1 b y)
+      pub rows-add-field : m ≡ length (named w) → v ≡ t i → i < length ws → w ≡ getD ws i 0 → (j a : ℕ) → j ≡ i + 1 → a ≡ k + m + length v + 2 → a + length (rowsFrom j) ≡ length (linesFrom t ws 0)
+      rows-add-field e text here name j a z y =
+          rw z (omega (arith, line-length (named w) v, ap length (rows-step i w v here name text), length-append (line (named w) v) (rowsFrom (i + 1))))
 
-    pub fields-add : (k : ℕ) → k + length (fieldsFrom f) ≡ length (linesFrom (valueText event card e c) (take n names) 0) → (m : ℕ) → m ≡ length (named (getD names f 0))
-        → (j a : ℕ) → j ≡ f + 1 → a ≡ k + m + length v + 2 → a + length (fieldsFrom j) ≡ length (linesFrom (valueText event card e c) (take n names) 0)
-    fields-add k inv m q j a z y =
-        rw z (omega (arith, ap length fields-step, length-append (line (named (getD names f 0)) v) (fieldsFrom (f + 1)), line-long (named (getD names f 0)) v))
+-- the names of the fields, and those of the statuses
+module _ (names : List ℕ) (n x : ℕ) where
+  pub field-over : n ≤ x → length (take n names) ≤ x
+  field-over h = omega (arith, length-take n names)
+
+  pub field-here : x < n → n ≤ length names → x < length (take n names)
+  field-here h g = omega (arith, length-take n names)
+
+  pub field-name : x < n → getD names x 0 ≡ getD (take n names) x 0
+  field-name h = sym (getD-take n names x 0 h)
+
+  module _ (from : ℕ) where
+    pub mark-over : n ≤ x → length (take n (drop from names)) ≤ x
+    mark-over h = omega (arith, length-take n (drop from names))
+
+    pub mark-here : x < n → from + n ≤ length names → x < length (take n (drop from names))
+    mark-here h g = omega (arith, length-take n (drop from names), length-drop from names)
+
+    pub mark-name : x < n → getD names (from + x) 0 ≡ getD (take n (drop from names)) x 0
+    mark-name h = sym (getD-take n (drop from names) x 0 h ∙ getD-drop from names x 0)
+
+pub mark-text : (marks : List ℕ) (x : ℕ) → mark (isYes (getD marks x 0)) ≡ markAt marks x
+mark-text marks x = refl
 
 -- what is measured is small
 pub fields-bound : (event card : List ℕ) (e : Happening) (c : Card) (f : ℕ) (v : List ℕ) → v ≡ valueText event card e c f → length event ≤ 512 → length card ≤ 1024
     → (k m : ℕ) → k ≤ f * 1040 → m ≤ 13 → (j a : ℕ) → j ≡ f + 1 → a ≡ k + m + length v + 2 → a ≤ j * 1040
 fields-bound event card e c f v y h g k m p q j a z w = omega (arith, value-short event card e c f v y h g)
 
-pub ruleset fields-writing = (left-start, fields-room, fields-more, fields-end, left-long)
+pub ruleset fields-writing = (left-start, rows-room, rows-more, rows-end, left-long, field-over, field-here, field-name)
 
-pub ruleset fields-measuring = (fields-add, fields-measured, fields-bound, value-short)
+pub ruleset fields-measuring = (rows-add-field, rows-measured, fields-bound, value-short, field-over, field-here, field-name)
 
--- the lines of the statuses
-module _ (marks names : List ℕ) (from n : ℕ) (held : from + n ≤ length names) where
-  abbrev marksFrom : ℕ → List ℕ
-  marksFrom x = linesFrom (markAt marks) (drop x (take n (drop from names))) x
+pub ruleset marks-writing = (left-start, rows-room, rows-more, rows-end, left-long, mark-over, mark-here, mark-name, mark-text)
 
-  many : length (take n (drop from names)) ≡ n
-  many = omega (arith, length-take n (drop from names), length-drop from names)
-
-  pub marks-end : (at₀ : ℕ) (o₀ : List ℕ) (at x : ℕ) (o : List ℕ) → Left at₀ (linesFrom (markAt marks) (take n (drop from names)) 0) o₀ at (marksFrom x) o
-      → n ≤ x → Wrote at₀ (linesFrom (markAt marks) (take n (drop from names)) 0) o₀ o at
-  marks-end at₀ o₀ at x o l h = left-end at₀ _ o₀ at (marksFrom x) o l (rows-over (markAt marks) (take n (drop from names)) x (omega (arith, many)))
-
-  pub marks-measured : (k x : ℕ) → k + length (marksFrom x) ≡ length (linesFrom (markAt marks) (take n (drop from names)) 0)
-      → n ≤ x → k ≡ length (linesFrom (markAt marks) (take n (drop from names)) 0)
-  marks-measured k x inv h = omega (arith, ap length (rows-over (markAt marks) (take n (drop from names)) x (omega (arith, many))))
-
-  module _ (x : ℕ) (here : x < n) where
-    marks-step : marksFrom x ≡ line (named (getD names (from + x) 0)) (mark (isYes (getD marks x 0))) ++ marksFrom (x + 1)
-    marks-step =
-        rows-step (markAt marks) (take n (drop from names)) x (getD names (from + x) 0) (mark (isYes (getD marks x 0))) (omega (arith, many))
-        (sym (getD-take n (drop from names) x 0 here ∙ getD-drop from names x 0)) refl
-
-    module _ (at₀ : ℕ) (o₀ : List ℕ) (at : ℕ) (o : List ℕ) (l : Left at₀ (linesFrom (markAt marks) (take n (drop from names)) 0) o₀ at (marksFrom x) o) where
-      pub marks-room : at + length (line (named (getD names (from + x) 0)) (mark (isYes (getD marks x 0)))) ≤ length o
-      marks-room = left-room at₀ _ o₀ at (marksFrom x) o l (line (named (getD names (from + x) 0)) (mark (isYes (getD marks x 0)))) (marksFrom (x + 1)) marks-step
-
-      pub marks-more : (o1 : List ℕ) (b : ℕ) → Wrote at (line (named (getD names (from + x) 0)) (mark (isYes (getD marks x 0)))) o o1 b → (j : ℕ) → j ≡ x + 1
-          → Left at₀ (linesFrom (markAt marks) (take n (drop from names)) 0) o₀ b (marksFrom j) o1
-      marks-more o1 b y j z = rw z (left-more at₀ _ o₀ at (marksFrom x) o l (line (named (getD names (from + x) 0)) (mark (isYes (getD marks x 0)))) (marksFrom (x + 1)) marks-step o1 b y)
-
-    pub marks-add : (k : ℕ) → k + length (marksFrom x) ≡ length (linesFrom (markAt marks) (take n (drop from names)) 0)
-        → (m : ℕ) → m ≡ length (line (named (getD names (from + x) 0)) (mark (isYes (getD marks x 0))))
-        → (j a : ℕ) → j ≡ x + 1 → a ≡ k + m → a + length (marksFrom j) ≡ length (linesFrom (markAt marks) (take n (drop from names)) 0)
-    marks-add k inv m q j a z y =
-        rw z (omega (arith, ap length marks-step, length-append (line (named (getD names (from + x) 0)) (mark (isYes (getD marks x 0)))) (marksFrom (x + 1))))
-
-pub ruleset marks-writing = (left-start, marks-room, marks-more, marks-end, left-long)
-
-pub ruleset marks-measuring = (marks-add, marks-measured)
+pub ruleset marks-measuring = (rows-add, rows-measured, mark-over, mark-here, mark-name, mark-text)

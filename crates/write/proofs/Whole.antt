@@ -1,34 +1,33 @@
 -- The whole card: its four parts as the tables give them, and what the lent space holds where it fits and where it does not.
-use mathlib.Core.Path.{_≡_, refl, ap, ap₂, sym, _∙_}
+use mathlib.Core.Path.{_≡_, refl, ap, sym, _∙_}
 use mathlib.Core.Bool.{Bool, true, false, cond}
 use mathlib.Core.List.{List, [], _∷_, _++_, map}
 use Prim.Native.Nat.{ℕ, zero, suc, _+_, _-_, _<_, _≤_, min}
 use native.Mathlib.Omega.{arith}
 use borrow.Author.Tests.{le-leb, lt-leb}
 use lib.ListN.{length, drop, take, getD, length-append, length-take, length-drop, length-map}
-use lib.Seq.{drop-cons}
 use Rattle.meaning.specs.Text.{text, from}
 use Rattle.meaning.specs.Number.{Entry, decimal}
 use Rattle.meaning.specs.Sheet.{Sheet, Status, statuses, statusNames}
 use Rattle.meaning.specs.Write.{line, lines, mark, cardText}
+use Rattle.theory.specs.Lists.{from-length}
+use Rattle.theory.specs.Accepted.{line-length}
 use Rattle.text.specs.Packed.{named}
 use Rattle.tables.specs.declared.Heads.{Heads}
-use Rattle.tables.specs.Heads.{headsOf, namesAt, statusAt, Sized}
+use Rattle.tables.specs.Heads.{headsOf, namesAt, Sized}
 use Rattle.card.specs.declared.Card.{Card}
-use Rattle.card.specs.declared.Happening.{Happening}
+use Rattle.card.proofs.Rows.{names-length}
+use Rattle.card.proofs.Sheets.{length-held, model-is, fields-are, statuses-are}
+use Rattle.event.specs.declared.Happening.{Happening}
 use Rattle.write.specs.declared.Written.{Written}
 use Rattle.write.specs.declared.Written.the-variants.{Bytes, Room}
-use Rattle.write.specs.Texts.{showing, isYes, valueText, nextText}
+use Rattle.write.specs.Texts.{showing, valueText, nextText}
 use Rattle.write.specs.Answers.{asWritten, spaceWith}
-use Rattle.write.specs.Lines.{Wrote, markAt, linesFrom}
-use Rattle.write.proofs.Laws.{wrote-room, wrote-both, line-long}
+use Rattle.space.specs.Answers.{Wrote, isYes}
+use Rattle.write.specs.Lines.{markAt, linesFrom}
+use Rattle.space.proofs.Laws.{wrote-room, wrote-both}
 
 -- LINES OF TABLES
-
-length-from : (i n : ℕ) → length (from i n) ≡ n
-unfolding from
-length-from i zero = refl
-length-from i (suc n) = ap suc (length-from (suc i) n)
 
 -- the fields' lines
 fields-lines : (t : ℕ → List ℕ) (ws : List ℕ) (i : ℕ) → lines (λ (e : Entry). e .shown) (map named ws) (map (λ f. showing (t f)) (from i (length ws))) ≡ linesFrom t ws i
@@ -49,47 +48,6 @@ marks-lines [] ms h = refl
 marks-lines (w ∷ ws) [] h = absurd (omega arith)
 marks-lines (w ∷ ws) (m ∷ ms) h = ap (λ r. line (named w) (mark (isYes m)) ++ r) (marks-lines ws ms (omega arith) ∙ lines-earlier (markAt (m ∷ ms)) ws 0)
 
--- the names of the statuses, from place x on
-names-at : (h : Heads) (k x n : ℕ) → k ≡ h .fields + h .events → k + x + n ≤ length (h .names)
-    → map (λ (s : Status). s .name) (map (statusAt h) (from x n)) ≡ map named (take n (drop (k + x) (h .names)))
-unfolding from
-names-at h k x zero e l = refl
-names-at h k x (suc n) e l =
-    let z : k + suc x ≡ suc (k + x) = omega arith in
-    rw (drop-cons (h .names) (k + x) 0 (omega arith))
-    (ap₂ (λ w r. named (getD (h .names) w 0) ∷ r) (ap (λ j. j + x) (sym e)) (rw z at (names-at h k (suc x) n e (omega arith))))
-
-from-append : (i a b : ℕ) → from i a ++ from (i + a) b ≡ from i (a + b)
-unfolding from
-from-append i zero b =
-    let z : i + 0 ≡ i = omega arith in
-    let y : 0 + b ≡ b = omega arith in
-    rw (z, y)
-from-append i (suc a) b =
-    let z : i + suc a ≡ suc i + a = omega arith in
-    let y : suc a + b ≡ suc (a + b) = omega arith in
-    rw (z, y) (ap (λ r. i ∷ r) (from-append (suc i) a b))
-
-map-both : {A B : Type 0} (f : A → B) (xs ys : List A) → map f (xs ++ ys) ≡ map f xs ++ map f ys
-map-both f [] ys = refl
-map-both f (x ∷ xs) ys = ap (λ r. f x ∷ r) (map-both f xs ys)
-
-module _ (h : Heads) where
-  -- the statuses of the tables
-  statuses-are : statuses (headsOf h) ≡ map (statusAt h) (from 0 (h .stages + h .miles))
-  unfolding statuses headsOf
-  statuses-are =
-      let z : 0 + h .stages ≡ h .stages = omega arith in
-      sym (map-both (statusAt h) (from 0 (h .stages)) (from (h .stages) (h .miles)))
-      ∙ ap (map (statusAt h)) (rw z at (from-append 0 (h .stages) (h .miles)))
-
-  module _ (sized : Sized h) (long : length (h .names) ≡ 64) where
-    status-names : statusNames (statuses (headsOf h)) ≡ map named (take (h .stages + h .miles) (drop (h .fields + h .events) (h .names)))
-    unfolding statusNames
-    status-names =
-        let z : h .fields + h .events + 0 ≡ h .fields + h .events = omega arith in
-        rw statuses-are (rw z at (names-at h (h .fields + h .events) 0 (h .stages + h .miles) refl (omega (arith, sized .few-fields, sized .few-events, sized .few-statuses))))
-
 -- THE NEXT CARD OF THE TABLES
 
 module _ (h : Heads) (event card : List ℕ) (e : Happening) (c : Card) (marks : List ℕ) where
@@ -106,36 +64,40 @@ module _ (h : Heads) (event card : List ℕ) (e : Happening) (c : Card) (marks :
   endLine = line (text "end") (decimal (h .fields + (h .stages + h .miles)))
 
   module _ (sized : Sized h) (long : length (h .names) ≡ 64) (held : length marks ≡ 32) where
-    fields-many : length (take (h .fields) (h .names)) ≡ h .fields
-    fields-many = omega (arith, length-take (h .fields) (h .names), sized .few-fields)
-
     statuses-many : length (take (h .stages + h .miles) (drop (h .fields + h .events) (h .names))) ≡ h .stages + h .miles
     statuses-many =
         omega (arith, length-take (h .stages + h .miles) (drop (h .fields + h .events) (h .names)), length-drop (h .fields + h .events) (h .names), sized .few-fields, sized .few-events, sized .few-statuses)
 
-    fields-are : (t : ℕ → List ℕ) → lines (λ (e : Entry). e .shown) (headsOf h .fields) (map (λ f. showing (t f)) (from 0 (length (headsOf h .fields)))) ≡ linesFrom t (take (h .fields) (h .names)) 0
+    fields-lined : (t : ℕ → List ℕ) → lines (λ (e : Entry). e .shown) (headsOf h .fields) (map (λ f. showing (t f)) (from 0 (length (headsOf h .fields)))) ≡ linesFrom t (take (h .fields) (h .names)) 0
     unfolding headsOf namesAt
-    fields-are t = rw (length-map (take (h .fields) (h .names)) named) (fields-lines t (take (h .fields) (h .names)) 0)
+    fields-lined t = rw (length-map (take (h .fields) (h .names)) named) (fields-lines t (take (h .fields) (h .names)) 0)
 
     fields-count : length (headsOf h .fields) ≡ h .fields
-    unfolding headsOf namesAt
-    fields-count = length-map (take (h .fields) (h .names)) named ∙ fields-many
+    fields-count = rw (fields-are h) (names-length (h .names) (h .fields) (omega (arith, sized .few-fields)))
+
+    status-names : statusNames (statuses (headsOf h)) ≡ map named (take (h .stages + h .miles) (drop (h .fields + h .events) (h .names)))
+    status-names = statuses-are h (omega (arith, sized .few-fields, sized .few-events, sized .few-statuses))
 
     statuses-count : length (statuses (headsOf h)) ≡ h .stages + h .miles
-    statuses-count = rw (statuses-are h) (length-map (from 0 (h .stages + h .miles)) (statusAt h) ∙ length-from 0 (h .stages + h .miles))
+    unfolding statusNames
+    statuses-count =
+        sym (length-map (statuses (headsOf h)) (λ (s : Status). s .name))
+        ∙ ap length status-names
+        ∙ length-map (take (h .stages + h .miles) (drop (h .fields + h .events) (h .names))) named
+        ∙ statuses-many
 
     marks-are : lines mark (statusNames (statuses (headsOf h))) (map isYes (take (h .stages + h .miles) marks)) ≡ marksLines
     marks-are =
         let ws = take (h .stages + h .miles) (drop (h .fields + h .events) (h .names)) in
         let few : length ws ≤ length marks = omega (arith, statuses-many, sized .few-statuses) in
-        rw (status-names h sized long) (rw statuses-many at (marks-lines ws marks few))
+        rw status-names (rw statuses-many at (marks-lines ws marks few))
 
     count-is : length (map (λ f. showing (valueText event card e c f)) (from 0 (length (headsOf h .fields)))) + length (map isYes (take (length (statuses (headsOf h))) marks)) ≡ h .fields + (h .stages + h .miles)
     count-is =
         omega (
           arith,
           length-map (from 0 (length (headsOf h .fields))) (λ f. showing (valueText event card e c f)),
-          length-from 0 (length (headsOf h .fields)),
+          from-length (length (headsOf h .fields)) 0,
           fields-count,
           length-map (take (length (statuses (headsOf h))) marks) isYes,
           length-take (length (statuses (headsOf h))) marks,
@@ -143,20 +105,16 @@ module _ (h : Heads) (event card : List ℕ) (e : Happening) (c : Card) (marks :
           sized .few-statuses,
         )
 
-    model-is : headsOf h .model ≡ named (h .model)
-    unfolding headsOf
-    model-is = refl
-
     next-is : nextText (headsOf h) event card e c marks ≡ caseLine ++ fieldsLines ++ marksLines ++ endLine
     unfolding nextText cardText
-    next-is = rw (fields-are (valueText event card e c), count-is, statuses-count, marks-are, model-is)
+    next-is = rw (fields-lined (valueText event card e c), count-is, statuses-count, marks-are, model-is h)
 
     -- measured
     pub card-long : (m b d k : ℕ) → m ≡ length (named (h .model)) → b ≡ length fieldsLines → d ≡ length marksLines
         → k ≡ length (decimal (h .fields + (h .stages + h .miles))) → (r : ℕ) → r ≡ m + 6 + b + d + k + 5 → r ≡ length (nextText (headsOf h) event card e c marks)
     card-long m b d k p q s t r z =
-        let a1 = line-long (text "case") (named (h .model)) in
-        let a2 = line-long (text "end") (decimal (h .fields + (h .stages + h .miles))) in
+        let a1 = line-length (text "case") (named (h .model)) in
+        let a2 = line-length (text "end") (decimal (h .fields + (h .stages + h .miles))) in
         rw next-is (simp length-append (omega arith))
 
     -- written, one part behind the other
@@ -210,9 +168,6 @@ pub ruleset carding = (card-case, card-fields, card-marks, card-end, card-done, 
 
 -- THE LENT SPACE
 
-pub array-long : {B : Type 0} (f : ℕ → B) (xs : List ℕ) → length (map f xs) ≡ 64 → length xs ≡ 64
-array-long f xs e = sym (length-map xs f) ∙ e
-
 -- w is the text of the next card, n its length
 module _ (w : List ℕ) (n : ℕ) (is : n ≡ length w) (o : List ℕ) where
   pub room-none : length o < n → Room ≡ asWritten o w
@@ -236,4 +191,4 @@ module _ (w : List ℕ) (n : ℕ) (is : n ≡ length w) (o : List ℕ) where
   pub room-fits : n ≤ length o → length w ≤ length o
   room-fits g = omega arith
 
-pub ruleset rooming = (array-long, room-none, room-kept, room-some, room-filled, room-fits)
+pub ruleset rooming = (length-held, room-none, room-kept, room-some, room-filled, room-fits)

@@ -1,9 +1,7 @@
 -- The next card as a text, from the tables of the sheet, the texts of the card and the event line, and the marks after the step.
 use Prim.Native.Nat.{ℕ}
-use mathlib.Core.Bool.{Bool}
 use mathlib.Core.List.{List, [], _∷_, map}
 use mathlib.Core.Option.{Option, none, some}
-use lib.Dec.{eqb}
 use lib.ListN.{length, take, drop, getD}
 use Rattle.meaning.specs.Text.{from}
 use Rattle.meaning.specs.Number.{Entry, missing}
@@ -12,8 +10,9 @@ use Rattle.meaning.specs.Write.{cardText}
 use Rattle.text.specs.Answers.{foundIn}
 use Rattle.text.specs.declared.Found.{Found}
 use Rattle.text.specs.declared.Found.the-variants as F
+use Rattle.space.specs.Answers.{isYes}
 use Rattle.card.specs.declared.Card.{Card}
-use Rattle.card.specs.declared.Happening.{Happening}
+use Rattle.event.specs.declared.Happening.{Happening}
 
 -- a part of a text
 abbrev pub part : List ℕ → ℕ → ℕ → List ℕ
@@ -31,10 +30,6 @@ valueText event card e c f = shownBy event card e c f (foundIn f (take (e .count
 -- an entry with this text; its value is not written
 abbrev pub showing : List ℕ → Entry
 showing t = record { shown = t; value = missing }
-
--- a mark is yes
-abbrev pub isYes : ℕ → Bool
-isYes m = eqb m 2
 
 -- the next card
 unfoldable pub nextText : Sheet → List ℕ → List ℕ → Happening → Card → List ℕ → List ℕ

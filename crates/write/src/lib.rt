@@ -1,19 +1,15 @@
 // Writing the next card into lent space.
 ghost use mathlib.Core.Path.{_≡_};
-ghost use mathlib.Core.List.{[], _∷_};
 ghost use Prim.Native.Nat.{_≤_, _<_, _+_};
 ghost use lib.ListN.{length, take, drop, getD};
-ghost use Rattle.meaning.specs.Text.{text};
-ghost use Rattle.meaning.specs.Number.{decimal};
-ghost use Rattle.meaning.specs.Write.{line, mark};
-ghost use Rattle.text.specs.Packed.{byteOf, named};
 ghost use Rattle.text.specs.Answers.{foundIn};
 ghost use Rattle.tables.specs.Heads.{Sized, headsOf};
-ghost use Rattle.write.specs.Texts.{part, isYes, valueText, nextText};
+ghost use Rattle.write.specs.Texts.{part, valueText, nextText};
 ghost use Rattle.write.specs.Answers.{asWritten, spaceWith};
-ghost use Rattle.write.specs.Lines.{Wrote, markAt, linesFrom};
+ghost use Rattle.space.specs.Answers.{Wrote};
+ghost use Rattle.write.specs.Lines.{markAt, linesFrom};
 use card::Card;
-use card::Happening;
+use event::Happening;
 use tables::Heads;
 use text::Found;
 
@@ -21,167 +17,6 @@ use text::Found;
 pub enum Written {
     Bytes(usize),
     Room,
-}
-
-// Puts a byte at a place of `out`, and tells the place behind it.
-fn put_byte(out: &mut [u8], at: usize, b: u8) -> usize
-    requires { ⌜ at + 1 ≤ length (now out) ⌝ }
-    ensures { λ r. ⌜ Wrote at (b ∷ []) (now (out .entry)) (now (out .exit)) r ⌝ }
-{
-    out[at] = b;
-    at + 1
-}
-
-// Puts a text at a place of `out`, and tells the place behind it.
-fn put_text(out: &mut [u8], at: usize, w: &[u8]) -> usize
-    requires { ⌜ at + length (now w) ≤ length (now out) ⌝ }
-    ensures { λ r. ⌜ Wrote at (now (w .entry)) (now (out .entry)) (now (out .exit)) r ⌝ }
-{
-    let mut to = at;
-    let mut i = 0;
-    while i < w.len() {
-        to = put_byte(out, to, w[i]);
-        i += 1;
-    }
-    to
-}
-
-// The byte of a symbol of a packed name.
-fn symbol_byte(d: u64) -> u8
-    ensures { λ r. ⌜ r ≡ byteOf d ⌝ }
-{
-    if d == 0 {
-        return 0;
-    }
-    if d <= 26 {
-        return (d + 96) as u8;
-    }
-    if d <= 36 {
-        return (d + 21) as u8;
-    }
-    0
-}
-
-// Puts the name for which a number stands.
-fn put_name(out: &mut [u8], at: usize, name: u64) -> usize
-    requires { ⌜ at + length (named name) ≤ length (now out) ⌝ }
-    ensures { λ r. ⌜ Wrote at (named name) (now (out .entry)) (now (out .exit)) r ⌝ }
-{
-    let mut to = at;
-    let mut v = name;
-    let mut left: usize = 13;
-    while 0 < left {
-        if v == 0 {
-            return to;
-        }
-        to = put_byte(out, to, symbol_byte(v % 38));
-        v = v / 38;
-        left -= 1;
-    }
-    to
-}
-
-// How long that name is.
-fn name_len(name: u64) -> usize
-    ensures { λ r. ⌜ (r ≡ length (named name)) × (r ≤ 13) ⌝ }
-{
-    let mut n = 0;
-    let mut v = name;
-    let mut left: usize = 13;
-    while 0 < left {
-        if v == 0 {
-            return n;
-        }
-        n += 1;
-        v = v / 38;
-        left -= 1;
-    }
-    n
-}
-
-// Puts a count of at most two digits.
-fn put_count(out: &mut [u8], at: usize, n: usize) -> usize
-    requires { ⌜ (n < 100) × (at + length (decimal n) ≤ length (now out)) ⌝ }
-    ensures { λ r. ⌜ Wrote at (decimal n) (now (out .entry)) (now (out .exit)) r ⌝ }
-{
-    if n < 10 {
-        return put_byte(out, at, 48 + n as u8);
-    }
-    let a = put_byte(out, at, 48 + (n / 10) as u8);
-    put_byte(out, a, 48 + (n % 10) as u8)
-}
-
-// How many digits it has.
-fn count_len(n: usize) -> usize
-    requires { ⌜ n < 100 ⌝ }
-    ensures { λ r. ⌜ (r ≡ length (decimal n)) × (r ≤ 2) ⌝ }
-{
-    if n < 10 {
-        return 1;
-    }
-    2
-}
-
-// Puts the line of a name and a value at the start of `out`.
-fn put_line(out: &mut [u8], name: u64, v: &[u8]) -> usize
-    requires { ⌜ length (line (named name) (now v)) ≤ length (now out) ⌝ }
-    ensures { λ r. ⌜ Wrote 0 (line (named name) (now (v .entry))) (now (out .entry)) (now (out .exit)) r ⌝ }
-{
-    let a = put_name(out, 0, name);
-    let b = put_byte(out, a, b'=');
-    let c = put_text(out, b, v);
-    put_byte(out, c, b'\n')
-}
-
-// The same at the cursor: the rest of the space from there on is lent on.
-fn line_at(out: &mut [u8], at: usize, name: u64, v: &[u8]) -> usize
-    requires { ⌜ at + length (line (named name) (now v)) ≤ length (now out) ⌝ }
-    ensures { λ r. ⌜ Wrote at (line (named name) (now (v .entry))) (now (out .entry)) (now (out .exit)) r ⌝ }
-{
-    let k = put_line(&mut out[at..], name, v);
-    at + k
-}
-
-// The line of a status.
-fn mark_at(out: &mut [u8], at: usize, name: u64, m: u8) -> usize
-    requires { ⌜ at + length (line (named name) (mark (isYes m))) ≤ length (now out) ⌝ }
-    ensures { λ r. ⌜ Wrote at (line (named name) (mark (isYes m))) (now (out .entry)) (now (out .exit)) r ⌝ }
-{
-    if m == 2 {
-        return line_at(out, at, name, b"yes");
-    }
-    line_at(out, at, name, b"no")
-}
-
-// How long it is.
-fn mark_len(name: u64, m: u8) -> usize
-    ensures { λ r. ⌜ (r ≡ length (line (named name) (mark (isYes m)))) × (r ≤ 18) ⌝ }
-{
-    let n = name_len(name);
-    if m == 2 {
-        return n + 5;
-    }
-    n + 4
-}
-
-// The first line.
-fn put_case(out: &mut [u8], model: u64) -> usize
-    requires { ⌜ length (line (text "case") (named model)) ≤ length (now out) ⌝ }
-    ensures { λ r. ⌜ Wrote 0 (line (text "case") (named model)) (now (out .entry)) (now (out .exit)) r ⌝ }
-{
-    let a = put_text(out, 0, b"case=");
-    let b = put_name(out, a, model);
-    put_byte(out, b, b'\n')
-}
-
-// The last line.
-fn put_end(out: &mut [u8], at: usize, n: usize) -> usize
-    requires { ⌜ (n < 100) × (at + length (line (text "end") (decimal n)) ≤ length (now out)) ⌝ }
-    ensures { λ r. ⌜ Wrote at (line (text "end") (decimal n)) (now (out .entry)) (now (out .exit)) r ⌝ }
-{
-    let a = put_text(out, at, b"end=");
-    let b = put_count(out, a, n);
-    put_byte(out, b, b'\n')
 }
 
 // The part of `s` that begins at `start` and has `len` bytes, as far as `s` goes.
@@ -253,7 +88,7 @@ fn fields_at<'a>(
     let mut f = 0;
     while f < n {
         let v = value_text(event, card, e, c, f);
-        to = line_at(out, to, names[f], v);
+        to = space::line_at(out, to, names[f], v);
         f += 1;
     }
     to
@@ -275,7 +110,7 @@ fn fields_len<'a>(
     let mut f = 0;
     while f < n {
         let v = value_text(event, card, e, c, f);
-        k = k + name_len(names[f]) + v.len() + 2;
+        k = k + space::name_len(names[f]) + v.len() + 2;
         f += 1;
     }
     k
@@ -289,7 +124,7 @@ fn marks_at(out: &mut [u8], at: usize, names: &[u64], from: usize, n: usize, mar
     let mut to = at;
     let mut x = 0;
     while x < n {
-        to = mark_at(out, to, names[from + x], marks[x]);
+        to = space::mark_at(out, to, names[from + x], marks[x]);
         x += 1;
     }
     to
@@ -303,7 +138,7 @@ fn marks_len(names: &[u64], from: usize, n: usize, marks: &[u8]) -> usize
     let mut k = 0;
     let mut x = 0;
     while x < n {
-        k = k + mark_len(names[from + x], marks[x]);
+        k = k + space::mark_len(names[from + x], marks[x]);
         x += 1;
     }
     k
@@ -322,10 +157,10 @@ fn card_len<'a>(
     ensures { λ r. ⌜ r ≡ length (nextText (headsOf h) (now (event .entry)) (now (card .entry)) e c marks) ⌝ }
 {
     let statuses = h.stages + h.miles;
-    let a = name_len(h.model) + 6;
+    let a = space::name_len(h.model) + 6;
     let b = fields_len(&h.names, h.fields, event, card, e, c);
     let m = marks_len(&h.names, h.fields + h.events, statuses, &marks);
-    a + b + m + count_len(h.fields + statuses) + 5
+    a + b + m + space::count_len(h.fields + statuses) + 5
 }
 
 // Writes the next card, which fits.
@@ -342,10 +177,10 @@ fn put_card<'a>(
     ensures { λ r. ⌜ Wrote 0 (nextText (headsOf h) (now (event .entry)) (now (card .entry)) e c marks) (now (out .entry)) (now (out .exit)) r ⌝ }
 {
     let statuses = h.stages + h.miles;
-    let a = put_case(out, h.model);
+    let a = space::put_case(out, h.model);
     let b = fields_at(out, a, &h.names, h.fields, event, card, e, c);
     let d = marks_at(out, b, &h.names, h.fields + h.events, statuses, &marks);
-    put_end(out, d, h.fields + statuses)
+    space::put_end(out, d, h.fields + statuses)
 }
 
 // The next card, line by line, at the start of `out`; nothing where it does not fit.

@@ -5,8 +5,8 @@ use Rattle.condition.proofs.Steps.{storing}
 use Rattle.condition.proofs.leaf_item.Statement.{statement}
 use Rattle.condition.proofs.leaf_item.Tie as tie
 
-leaf-requires : tie.Need-leaf-requires
-leaf-requires c κs = search (needs, storing)
+read-leaf-requires : tie.Need-read-leaf-requires
+read-leaf-requires c κs = search (needs, storing)
 
 enum-known-r : tie.Need-enum-known-r
 enum-known-r c = search (needs, storing)
@@ -39,7 +39,7 @@ pub leaf-item-spec : {M : Type 1} → statement M
 leaf-item-spec =
     tie.close
     (tie.spec
-    leaf-requires
+    read-leaf-requires
     enum-known-r
     enum-known-r-2
     mul-words

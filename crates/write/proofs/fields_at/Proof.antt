@@ -3,7 +3,7 @@ use Prim.Native.Nat.{_-_}
 use lib.ListN.{take, drop}
 use Rattle.write.specs.Texts.{valueText}
 use Rattle.write.specs.Lines.{linesFrom}
-use Rattle.write.proofs.Laws.{Left}
+use Rattle.space.proofs.Laws.{Left}
 use Rattle.write.proofs.Rows.{fields-writing}
 use Rattle.write.proofs.fields_at.Statement.{statement}
 use Rattle.write.proofs.fields_at.Tie as tie

@@ -2,7 +2,7 @@ use borrow.Author.Needs.{needs}
 use Prim.Native.Nat.{_-_}
 use lib.ListN.{take, drop}
 use Rattle.write.specs.Lines.{markAt, linesFrom}
-use Rattle.write.proofs.Laws.{Left}
+use Rattle.space.proofs.Laws.{Left}
 use Rattle.write.proofs.Rows.{marks-writing}
 use Rattle.write.proofs.marks_at.Statement.{statement}
 use Rattle.write.proofs.marks_at.Tie as tie

@@ -1,0 +1,4 @@
+-- The events of a sheet, the functions, and what callers use:
+pub mod Sheets
+pub mod Events
+pub mod Callers

@@ -1,0 +1,2 @@
+-- Texts at a place of lent space:
+pub mod Answers

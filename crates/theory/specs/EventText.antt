@@ -1,0 +1,125 @@
+-- Every event line that is read is the text of what was read.
+use Prim.Native.Nat.{ℕ, zero, suc}
+use mathlib.Core.Path.{_≡_, refl, sym, _∙_, ap}
+use mathlib.Core.Bool.{Bool, true, false}
+use mathlib.Core.List.{List, [], _∷_, _++_, append-nil}
+use mathlib.Core.Option.{Option, none, some}
+use native.Mathlib.Omega.{arith}
+use lib.ListN.{length, getD}
+use Rattle.meaning.specs.Text.{text, same, find, later, joined}
+use Rattle.meaning.specs.Refusal.{taken, LINE, NAME}
+use Rattle.meaning.specs.Limits.{eventBytes}
+use Rattle.meaning.specs.Reading.{Reader, each, due, lineEnd, paperEnd, paper}
+use Rattle.meaning.specs.Name.{Name, known, placed}
+use Rattle.meaning.specs.Number.{entry}
+use Rattle.meaning.specs.Sheet.{Sheet, eventNames}
+use Rattle.meaning.specs.Card.{fieldEntry, Put, Happening, carriedBy, put, happening, readEvent}
+use Rattle.theory.specs.Readers.{Yields, got-yields, wrong-yields, bind-yields, any-yields, Holds, paper-read}
+use Rattle.theory.specs.Names.{same-equal}
+use Rattle.theory.specs.Spelling.{Spells, give-spells, refuse-spells, bind-spells, behind-spells, due-spells, lineEnd-spells, name-spells, dueName-spells}
+use Rattle.theory.specs.Entries.{entry-spells}
+
+-- THE TEXT OF AN EVENT LINE
+
+-- "a space and `FIELD=` and a number or `?`"
+unfoldable pub putText : Sheet → Put → List ℕ
+putText sh p = text " " ++ (getD (sh .fields) (p .field) [] ++ text "=" ++ p .entry .shown)
+
+-- "the event's name, then for each field it carries, .., then LF"
+unfoldable pub eventText : Sheet → Happening → List ℕ
+eventText sh h = getD (eventNames (sh .events)) (h .event) [] ++ joined (putText sh) (h .puts) ++ text "\n"
+
+-- THE TEXT OF EACH PIECE
+
+-- a name that is found stands at its place
+find-name : (w : List ℕ) (ns : List Name) (i : ℕ) → find w ns ≡ some i → w ≡ getD ns i []
+unfolding find
+find-name w [] i e =
+    let z : _≡_ {A = ℕ} 0 1 = cc in
+    absurd (omega arith)
+find-name w (k ∷ ks) i e = go (same w k) refl (find w ks) i e (find-name w ks)
+  where
+    go : (b : Bool) → same w k ≡ b → (o : Option ℕ) (i : ℕ) → elim b [ true ↦ some 0 | false ↦ later o ] ≡ some i
+        → ((j : ℕ) → o ≡ some j → w ≡ getD ks j []) → w ≡ getD (k ∷ ks) i []
+    go true q o i e ih =
+        let z : 0 ≡ i = cc in
+        rw (← z) (same-equal w k q)
+    go false q none i e ih =
+        let z : _≡_ {A = ℕ} 0 1 = cc in
+        absurd (omega arith)
+    go false q (some j) i e ih =
+        let z : suc j ≡ i = cc in
+        rw (← z) (ih j refl)
+
+-- a name of the list
+pub known-spells : (ns : List Name) → Spells [] (known ns) (λ i. getD ns i [])
+unfolding known
+known-spells ns = bind-spells name-spells λ w. go w (find w ns) refl
+  where
+    go : (w : List ℕ) (o : Option ℕ) → find w ns ≡ o → Spells w (placed o) (λ i. getD ns i [])
+    go w none e = refuse-spells
+    go w (some i) e = give-spells (find-name w ns i e)
+
+-- a field with its value
+pub field-spells : (n : Name) → Spells [] (fieldEntry n) (λ e. n ++ text "=" ++ e .shown)
+unfolding fieldEntry
+field-spells n =
+    bind-spells (dueName-spells n) λ x.
+    bind-spells (due-spells LINE (text "=")) λ y.
+    behind-spells (n ++ text "=") entry-spells
+
+put-spells : (sh : Sheet) (f : ℕ) → Spells [] (put sh f) (putText sh)
+unfolding put putText
+put-spells sh f =
+    bind-spells (due-spells LINE (text " ")) λ x.
+    bind-spells (field-spells (getD (sh .fields) f [])) λ e.
+    give-spells refl
+
+-- each put, in the order in which the event carries them
+puts-spells : (sh : Sheet) (fs : List ℕ) → Spells [] (each (put sh) fs) (joined (putText sh))
+unfolding each joined
+puts-spells sh [] = give-spells refl
+puts-spells sh (f ∷ fs) =
+    bind-spells (put-spells sh f) λ p.
+    bind-spells (puts-spells sh fs) λ ps.
+    give-spells refl
+
+-- nothing stands behind the line
+paperEnd-spells : Spells [] paperEnd (λ x. [])
+unfolding paperEnd
+paperEnd-spells = record { reads = λ l s. go l s }
+  where
+    go : (l : ℕ) (s : List ℕ) → Yields (paperEnd l s) (λ x t. s ≡ t)
+    go l [] = got-yields refl
+    go l (x ∷ s) = wrong-yields
+
+paperEnd-ends : (l : ℕ) (s : List ℕ) → Yields (paperEnd l s) (λ x t. t ≡ [])
+unfolding paperEnd
+paperEnd-ends l [] = got-yields refl
+paperEnd-ends l (x ∷ s) = wrong-yields
+
+-- all of it
+happening-spells : (sh : Sheet) → Spells [] (happening sh) (eventText sh)
+unfolding happening eventText
+happening-spells sh =
+    bind-spells (known-spells (eventNames (sh .events))) λ i.
+    bind-spells (puts-spells sh (carriedBy sh i)) λ ps.
+    bind-spells (lineEnd-spells LINE) λ x.
+    bind-spells paperEnd-spells λ y.
+    give-spells (append-nil _)
+
+happening-ends : (sh : Sheet) (l : ℕ) (s : List ℕ) → Yields (happening sh l s) (λ h t. t ≡ [])
+unfolding happening
+happening-ends sh l s =
+    any-yields (known (eventNames (sh .events)) l s) λ i j a.
+    any-yields (each (put sh) (carriedBy sh i) j a) λ ps k b.
+    any-yields (lineEnd LINE k b) λ _ m c.
+    bind-yields (paperEnd-ends m c) λ _ n t e.
+    got-yields e
+
+-- the event line that is taken is the text of what was taken from it
+pub happening-text : (sh : Sheet) (s : List ℕ) → Holds (readEvent sh s) (λ h. s ≡ eventText sh h)
+unfolding readEvent
+happening-text sh s h e =
+    let (f, (k, t, q)) = paper-read 3 eventBytes (happening sh) s h e in
+    happening-spells sh .reads 1 s .of h k t q ∙ ap (λ z. eventText sh h ++ z) (happening-ends sh 1 s .of h k t q) ∙ append-nil (eventText sh h)
