@@ -106,7 +106,14 @@ fn list_all(
     let under = heads.under;
     let mut flat = [0u32; 6161];
     let mut lens = [0usize; 16];
-    let count = parts::fill(&words, sheet.top, heads.fields, &values, &mut flat, &mut lens);
+    let count = parts::fill(
+        &words,
+        sheet.top,
+        heads.fields,
+        &values,
+        &mut flat,
+        &mut lens,
+    );
     if count == 0 {
         return Listed::Many;
     }

@@ -4,7 +4,7 @@ use mathlib.Core.Path.{_≡_, refl, sym, _∙_, ap}
 use mathlib.Core.List.{List}
 use lib.ListN.{length}
 use Rattle.meaning.specs.Refusal.{Answer, taken, refused}
-use Rattle.meaning.specs.Doors.{Case, readCase, stepAnswer, replied, written, stepReply, stepSpace}
+use Rattle.meaning.specs.Doors.{Case, readCase, stepAnswer, outlookAnswer, replied, written, stepReply, stepSpace, outlookReply, outlookSpace}
 use Rattle.theory.specs.Papers.{Papers}
 use Rattle.tables.specs.Heads.{Sized, asHeads}
 use Rattle.tables.proofs.Tables.{sized}
@@ -13,6 +13,9 @@ use Rattle.case.specs.declared.CaseRead.{CaseRead}
 use Rattle.case.specs.declared.Reply.{Reply}
 use Rattle.case.specs.Answers.{asReply, refusedReply, takenCase, asCase}
 use Rattle.case.proofs.Callers.{case-read, case-wrong, case-short}
+use Rattle.event.specs.Answers.{asHappening}
+use Rattle.outlook.specs.Patterns.{Ready, replyFor, spaceFor}
+use Rattle.outlook.proofs.Callers.{ready, reply-outlook, space-outlook}
 use Rattle.next.specs.Next.{textAfter, replyAfter}
 use Rattle.next.proofs.Callers.{reply-after, space-after}
 
@@ -52,3 +55,34 @@ module _ (s c e : List ℕ) (read : CaseRead) (told : read ≡ asCase (readCase 
           f ∙ ap (λ (x : CaseRead). spaceWith lent (textAfter x c e)) is ∙ space-after s c e k q lent ∙ sym (rw q)
 
 pub ruleset stepping = (step-refused, step-untouched, step-sized, step-card, step-event, step-reply, step-space)
+
+-- THE OUTLOOK
+
+module _ (s c e : List ℕ) (read : CaseRead) (told : read ≡ asCase (readCase s c e)) where
+  module _ (z : read .number ≡ 0 → ⊥) (lent : List ℕ) where
+    pub outlook-refused : (r : Reply) → r ≡ refusedReply (read .number) (read .paper) (read .line) → r ≡ asReply (outlookReply s c e (length lent))
+    unfolding outlookReply outlookAnswer replied
+    outlook-refused r f = f ∙ sym (rw (case-wrong s c e read told z))
+
+    pub outlook-untouched : lent ≡ outlookSpace s c e lent
+    unfolding outlookSpace outlookAnswer written
+    outlook-untouched = sym (rw (case-wrong s c e read told z))
+
+  module _ (z : read .number ≡ 0) where
+    pub outlook-ready : Ready (read .sheet) (read .values)
+    outlook-ready = let (k, q, is, papers) = case-read s c e read told z in rw is (ready s c e k q)
+
+    module _ (lent : List ℕ) where
+      pub outlook-reply : (r : Reply) → r ≡ replyFor (read .sheet) (read .happening .event) (read .values) (read .card .marks) (length lent) → r ≡ asReply (outlookReply s c e (length lent))
+      unfolding outlookReply outlookAnswer asHappening
+      outlook-reply r f =
+          let (k, q, is, papers) = case-read s c e read told z in
+          f ∙ ap (λ (x : CaseRead). replyFor (x .sheet) (x .happening .event) (x .values) (x .card .marks) (length lent)) is ∙ reply-outlook s c e k q (length lent) ∙ sym (rw q)
+
+      pub outlook-space : (now : List ℕ) → now ≡ spaceFor (read .sheet) (read .happening .event) (read .values) (read .card .marks) lent → now ≡ outlookSpace s c e lent
+      unfolding outlookSpace outlookAnswer asHappening
+      outlook-space now f =
+          let (k, q, is, papers) = case-read s c e read told z in
+          f ∙ ap (λ (x : CaseRead). spaceFor (x .sheet) (x .happening .event) (x .values) (x .card .marks) lent) is ∙ space-outlook s c e k q lent ∙ sym (rw q)
+
+pub ruleset listing = (outlook-refused, outlook-untouched, outlook-ready, outlook-reply, outlook-space)

@@ -3,7 +3,7 @@ use Prim.Native.Nat.{ℕ}
 use mathlib.Core.Path.{_≡_}
 use mathlib.Core.List.{List}
 use lib.ListN.{length}
-use Rattle.meaning.specs.Doors.{stepReply, stepSpace}
+use Rattle.meaning.specs.Doors.{stepReply, stepSpace, outlookReply, outlookSpace}
 use Rattle.theory.specs.Determined.{only}
 use Rattle.case.specs.declared.Reply.{Reply}
 use Rattle.case.specs.Answers.{asReply}
@@ -14,3 +14,9 @@ module _ (s c e lent : List ℕ) where
 
   pub step-space-only : (now then : List ℕ) → now ≡ stepSpace s c e lent → then ≡ stepSpace s c e lent → now ≡ then
   step-space-only now then = only
+
+  pub outlook-answer-only : (r q : Reply) → r ≡ asReply (outlookReply s c e (length lent)) → q ≡ asReply (outlookReply s c e (length lent)) → r ≡ q
+  outlook-answer-only r q = only
+
+  pub outlook-space-only : (now then : List ℕ) → now ≡ outlookSpace s c e lent → then ≡ outlookSpace s c e lent → now ≡ then
+  outlook-space-only now then = only
