@@ -3,3 +3,5 @@ pub mod Carried
 pub mod EventPieces
 pub mod Events
 pub mod Scan
+-- No second answer fits:
+pub mod Only

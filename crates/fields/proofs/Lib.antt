@@ -5,3 +5,5 @@ pub mod Sections
 -- The model, then the fields:
 pub mod Model
 pub mod Fields
+-- No second answer fits:
+pub mod Only

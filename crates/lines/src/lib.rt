@@ -63,7 +63,7 @@ fn key(s: &[u8], name: u64) -> Bytes
 }
 
 // The name that is due, `=` and a value.
-pub fn field_value(s: &[u8], name: u64) -> ValuePiece
+fn field_value(s: &[u8], name: u64) -> ValuePiece
     ensures { λ r. ⌜ r ≡ asValue (length (named name) + 1) (fieldEntry (named name) 0 (now (s .entry))) ⌝ }
 {
     let p = key(s, name);

@@ -1,3 +1,5 @@
 -- Laws of the step, return by return, and for callers:
 pub mod Laws
 pub mod Callers
+-- No second answer fits:
+pub mod Only

@@ -2,3 +2,5 @@
 pub mod Laws
 -- What callers use of the plan:
 pub mod Callers
+-- No second answer fits:
+pub mod Only

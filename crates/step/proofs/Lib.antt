@@ -7,3 +7,5 @@ pub mod Parts
 pub mod Holding
 -- What callers use of the step:
 pub mod Callers
+-- No second answer fits:
+pub mod Only

@@ -2,3 +2,5 @@
 pub mod Answered
 pub mod Pieces
 pub mod Callers
+-- No second answer fits:
+pub mod Only

@@ -9,3 +9,5 @@ pub mod Readable
 -- What callers use of it: what its words say, what it answers:
 pub mod Leaves
 pub mod Callers
+-- No second answer fits:
+pub mod Only

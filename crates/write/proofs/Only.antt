@@ -22,7 +22,7 @@ use Rattle.event.specs.declared.EventRead.{EventRead}
 use Rattle.card.specs.Answers.{asCardRead}
 use Rattle.event.specs.Answers.{asEventRead}
 use Rattle.write.specs.declared.Written.{Written}
-use Rattle.write.specs.Texts.{valueText, nextText}
+use Rattle.write.specs.Texts.{nextText}
 use Rattle.write.specs.Answers.{asWritten, spaceWith}
 
 -- pieces and lines
@@ -32,9 +32,6 @@ bytes-fault-only p r q = only
 module _ (s : List ℕ) (name : ℕ) where
   pub line-end-only : (r q : Bytes) → r ≡ asBytes s (lineEnd LINE 0 s) → q ≡ asBytes s (lineEnd LINE 0 s) → r ≡ q
   line-end-only r q = only
-
-  pub field-value-only : (r q : ValuePiece) → r ≡ asValue (length (named name) + 1) (fieldEntry (named name) 0 s) → q ≡ asValue (length (named name) + 1) (fieldEntry (named name) 0 s) → r ≡ q
-  field-value-only r q = only
 
   pub field-line-only : (r q : ValuePiece) → r ≡ asValue (length (named name) + 1) (ended (fieldEntry (named name)) 0 s)
       → q ≡ asValue (length (named name) + 1) (ended (fieldEntry (named name)) 0 s) → r ≡ q
@@ -58,9 +55,6 @@ read-event-only h s r q = only
 
 -- the next card: the answer and the space
 module _ (event card : List ℕ) (e : Happening) (c : Card) where
-  pub value-text-only : (f : ℕ) (r q : List ℕ) → r ≡ valueText event card e c f → q ≡ valueText event card e c f → r ≡ q
-  value-text-only f r q = only
-
   pub write-card-only : (out : List ℕ) (h : Heads) (marks : List ℕ) (r q : Written) → r ≡ asWritten out (nextText (headsOf h) event card e c marks)
       → q ≡ asWritten out (nextText (headsOf h) event card e c marks) → r ≡ q
   write-card-only out h marks r q = only

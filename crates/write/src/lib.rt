@@ -60,7 +60,7 @@ fn carried_at(fields: &[u8], count: usize, f: usize) -> Found
 }
 
 // The part of the event line or of the card that shows the value of field `f`.
-pub fn value_text<'a>(event: &'a [u8], card: &'a [u8], e: Happening, c: Card, f: usize) -> &'a [u8]
+fn value_text<'a>(event: &'a [u8], card: &'a [u8], e: Happening, c: Card, f: usize) -> &'a [u8]
     ensures { λ r. ⌜ now r ≡ valueText (now (event .entry)) (now (card .entry)) e c f ⌝ }
 {
     let p = carried_at(&e.fields, e.count, f);
