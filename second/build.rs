@@ -16,5 +16,5 @@ fn main() {
     };
     println!("cargo:rerun-if-changed={}", folder.join("libreambodkin.a").display());
     println!("cargo:rustc-link-search=native={}", folder.display());
-    println!("cargo:rustc-link-lib=static=reambodkin");
+    println!("cargo:rustc-link-lib=static:-bundle=reambodkin");
 }

@@ -76,7 +76,7 @@ fn check_outlook(case: &Case, random: &mut Random) -> Result<(), String> {
             for (&field, parts) in missing.iter().zip(&parts) {
                 let (low, high) = parts[(rest % parts.len() as u128) as usize];
                 rest /= parts.len() as u128;
-                let inside = low + (random.next() % (high - low + 1) as u64) as i64;
+                let inside = low + (random.draw() % (high - low + 1) as u64) as i64;
                 filled[field] = Some(if random.chance(3) {
                     inside
                 } else if end {

@@ -99,19 +99,27 @@ impl ConditionReader<'_, '_> {
     }
 
     fn condition(&mut self, depth: usize) -> Result<Condition, Fault> {
-        let mut lists = vec![self.and_list(depth)?];
+        let first = self.and_list(depth)?;
+        if !self.reader.take(b" or ") {
+            return Ok(first);
+        }
+        let mut lists = vec![first, self.and_list(depth)?];
         while self.reader.take(b" or ") {
             lists.push(self.and_list(depth)?);
         }
-        Ok(one_or(lists, Condition::Or))
+        Ok(Condition::Or(lists))
     }
 
     fn and_list(&mut self, depth: usize) -> Result<Condition, Fault> {
-        let mut items = vec![self.item(depth)?];
+        let first = self.item(depth)?;
+        if !self.reader.take(b" and ") {
+            return Ok(first);
+        }
+        let mut items = vec![first, self.item(depth)?];
         while self.reader.take(b" and ") {
             items.push(self.item(depth)?);
         }
-        Ok(one_or(items, Condition::And))
+        Ok(Condition::And(items))
     }
 
     fn item(&mut self, depth: usize) -> Result<Condition, Fault> {
@@ -170,11 +178,4 @@ impl ConditionReader<'_, '_> {
 
 fn deeper(depth: usize) -> Result<usize, Fault> {
     if depth == NESTING { Err(Fault::Cond) } else { Ok(depth + 1) }
-}
-
-fn one_or(mut parts: Vec<Condition>, join: fn(Vec<Condition>) -> Condition) -> Condition {
-    match parts.len() {
-        1 => parts.remove(0),
-        _ => join(parts),
-    }
 }

@@ -1,5 +1,7 @@
 //! The sheet: fields, events, stages, miles and rules.
 
+use std::collections::HashMap;
+
 use crate::{
     condition::{Condition, ConditionReader},
     piece::{Reader, read_paper},
@@ -43,6 +45,8 @@ pub struct Names<'a> {
     pub statuses: Vec<Status<'a>>,
     /// How many of the statuses are stages.
     pub stages: usize,
+    /// What each name stands for.
+    named: HashMap<&'a [u8], Named>,
 }
 
 #[derive(Clone, Copy, Debug, PartialEq, Eq)]
@@ -98,41 +102,49 @@ impl<'a> Sheet<'a> {
 
 impl<'a> Names<'a> {
     pub fn find(&self, name: &[u8]) -> Option<Named> {
-        if let Some(status) = self.statuses.iter().position(|status| status.name == name) {
-            return Some(Named::Status(status));
-        }
-        if let Some(field) = self.fields.iter().position(|field| *field == name) {
-            return Some(Named::Field(field));
-        }
-        self.events.iter().position(|event| event.name == name).map(Named::Event)
+        self.named.get(name).copied()
     }
 
     fn read(reader: &mut Reader<'a>) -> Result<Names<'a>, Fault> {
         reader.due(b"model=")?;
         let model = reader.name()?;
         reader.line_end()?;
-        let mut names = Names { model, fields: Vec::new(), events: Vec::new(), statuses: Vec::new(), stages: 0 };
+        let mut names = Names {
+            model,
+            fields: Vec::new(),
+            events: Vec::new(),
+            statuses: Vec::new(),
+            stages: 0,
+            named: HashMap::new(),
+        };
         while reader.take(b"field=") {
             not_full(names.fields.len(), FIELDS)?;
             let field = names.new_name(reader)?;
             reader.line_end()?;
+            names.named.insert(field, Named::Field(names.fields.len()));
             names.fields.push(field);
         }
         while reader.take(b"event=") {
             not_full(names.events.len(), EVENTS)?;
             let event = names.event_line(reader)?;
+            names.named.insert(event.name, Named::Event(names.events.len()));
             names.events.push(event);
         }
         while reader.take(b"stage=") {
             let stage = names.status_line(reader)?;
-            names.statuses.push(stage);
+            names.add_status(stage);
             names.stages += 1;
         }
         while reader.take(b"mile=") {
             let mile = names.status_line(reader)?;
-            names.statuses.push(mile);
+            names.add_status(mile);
         }
         Ok(names)
+    }
+
+    fn add_status(&mut self, status: Status<'a>) {
+        self.named.insert(status.name, Named::Status(self.statuses.len()));
+        self.statuses.push(status);
     }
 
     fn new_name(&self, reader: &mut Reader<'a>) -> Result<&'a [u8], Fault> {

@@ -16,6 +16,10 @@ type Answer = (u64, u64);
 #[derive(Default)]
 pub struct Statistic {
     met: BTreeMap<(Request, Answer), u64>,
+    changed: u64,
+    with_tasks: u64,
+    several: u64,
+    longest: usize,
 }
 
 impl Statistic {
@@ -25,6 +29,25 @@ impl Statistic {
 
     pub fn refused(&mut self, request: Request, refusal: Refusal) {
         self.count(request, (refusal.fault as u64, refusal.paper as u64));
+    }
+
+    /// Counts what a taken step gave: whether a status changed, and which tasks were started.
+    pub fn stepped(&mut self, changed: bool, tasks: u32) {
+        self.changed += u64::from(changed);
+        self.with_tasks += u64::from(tasks != 0);
+    }
+
+    pub fn listed(&mut self, patterns: usize) {
+        self.several += u64::from(patterns > 1);
+        self.longest = self.longest.max(patterns);
+    }
+
+    /// What the taken steps and outlooks gave.
+    pub fn results(&self) -> String {
+        format!(
+            "status changed in {} steps, tasks started in {}; {} outlooks with several patterns, the longest with {}\n",
+            self.changed, self.with_tasks, self.several, self.longest
+        )
     }
 
     fn count(&mut self, request: Request, answer: Answer) {
@@ -54,7 +77,7 @@ impl Statistic {
             table += &line;
             table.push('\n');
         }
-        (table, all_met)
+        (table + &self.results(), all_met)
     }
 }
 

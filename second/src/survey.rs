@@ -1,5 +1,7 @@
 //! One case looked at from all sides by the second implementation: its answers counted, small ones checked by the book.
 
+use std::io::Write;
+
 use crate::{
     Next, book,
     generate::Random,
@@ -27,13 +29,21 @@ impl Answers {
         }
     }
 
-    pub fn count(&self, statistic: &mut Statistic) {
+    pub fn count(&self, papers: &Papers, statistic: &mut Statistic) {
         match &self.step {
-            Ok(_) => statistic.taken(Request::Step),
+            Ok(next) => {
+                let yes = |card: &[u8]| card.split(|byte| *byte == b'\n').map(|line| line.ends_with(b"=yes")).collect();
+                let (before, after): (Vec<bool>, Vec<bool>) = (yes(&papers.card), yes(&next.card));
+                statistic.taken(Request::Step);
+                statistic.stepped(before != after, next.tasks);
+            }
             Err(refusal) => statistic.refused(Request::Step, *refusal),
         }
         match &self.outlook {
-            Ok(_) => statistic.taken(Request::Outlook),
+            Ok(patterns) => {
+                statistic.taken(Request::Outlook);
+                statistic.listed(patterns.len());
+            }
             Err(refusal) => statistic.refused(Request::Outlook, *refusal),
         }
         match desk_refusal(&self.desk) {
@@ -76,6 +86,11 @@ pub fn check_by_book(papers: &Papers, random: &mut Random) -> Result<(), String>
         book::check_case(&case, random)?;
     }
     Ok(())
+}
+
+/// Prints a text; a reader that has gone away is no fault.
+pub fn say(text: &str) {
+    let _ = std::io::stdout().write_all(text.as_bytes());
 }
 
 /// Runs on a thread with a large stack.

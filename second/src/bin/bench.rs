@@ -12,7 +12,7 @@ use second::{
     examples::{CARD_Q, SHEET_P},
     limits::{Listing, Shape},
     papers::Papers,
-    survey::on_large_stack,
+    survey::{on_large_stack, say},
 };
 
 const RUNS: usize = 9;
@@ -65,8 +65,7 @@ fn bench() {
 }
 
 fn heading(text: &str) {
-    println!("\n{text}");
-    println!("{:<9} {:<34} {:>12} {:>12} {:>7}", "", "", "library us", "second us", "ratio");
+    say(&format!("\n{text}\n{:<44} {:>12} {:>12} {:>7}\n", "", "library us", "second us", "ratio"));
 }
 
 fn step(name: &str, papers: &Papers) {
@@ -101,7 +100,8 @@ fn compare(request: &str, name: &str, mut library: impl FnMut(), mut second: imp
         best_library = best_library.min(run(&mut library, library_times));
         best_second = best_second.min(run(&mut second, second_times));
     }
-    println!("{request:<9} {name:<34} {best_library:>12.2} {best_second:>12.2} {:>7.2}", best_library / best_second);
+    let ratio = best_library / best_second;
+    say(&format!("{request:<9} {name:<34} {best_library:>12.2} {best_second:>12.2} {ratio:>7.2}\n"));
 }
 
 fn calls_in_a_run(call: &mut impl FnMut()) -> u32 {

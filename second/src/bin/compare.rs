@@ -9,7 +9,7 @@ use second::{
     generate::{generate, random_of},
     papers::Papers,
     statistic::{Request, Statistic},
-    survey::{Answers, ENOUGH_CASES, check_by_book, on_large_stack, seed_and_count},
+    survey::{Answers, ENOUGH_CASES, check_by_book, on_large_stack, say, seed_and_count},
 };
 
 /// More than the desk can print.
@@ -28,7 +28,7 @@ fn main() -> ExitCode {
     on_large_stack(move || match compare_all(seed, count) {
         Ok(()) => ExitCode::SUCCESS,
         Err(difference) => {
-            println!("{difference}");
+            say(&format!("{difference}\n"));
             ExitCode::FAILURE
         }
     })
@@ -58,11 +58,11 @@ fn compare_all(seed: u64, count: u64) -> Result<(), String> {
         checked.map_err(|difference| format!("seed {seed}, case {index}: {difference}\n{papers}"))?;
     }
     let (table, all_met) = comparison.statistic.table();
-    print!("{table}");
+    say(&table);
     if !all_met && count >= ENOUGH_CASES {
         return Err("a number of a paper was never met".into());
     }
-    println!("{count} cases from seed {seed}, {} calls, no difference", comparison.calls);
+    say(&format!("{count} cases from seed {seed}, {} calls, no difference\n", comparison.calls));
     Ok(())
 }
 
@@ -101,7 +101,7 @@ impl Comparison {
 
     fn papers(&mut self, papers: &Papers) -> Result<(), String> {
         let answers = Answers::of(papers);
-        answers.count(&mut self.statistic);
+        answers.count(papers, &mut self.statistic);
         for room in rooms(answers.step.as_ref().ok().map(|next| next.card.len()), 1_024) {
             self.step(papers, room)?;
         }

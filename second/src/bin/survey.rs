@@ -6,7 +6,7 @@ use second::{
     generate::{generate, random_of},
     refusal::{Fault, Refusal},
     statistic::{Request, Statistic},
-    survey::{Answers, ENOUGH_CASES, check_by_book, on_large_stack, seed_and_count},
+    survey::{Answers, ENOUGH_CASES, check_by_book, on_large_stack, say, seed_and_count},
 };
 
 fn main() -> ExitCode {
@@ -25,7 +25,7 @@ fn survey(seed: u64, count: u64) -> ExitCode {
     for index in 0..count {
         let papers = generate(seed, index);
         let answers = Answers::of(&papers);
-        answers.count(&mut statistic);
+        answers.count(&papers, &mut statistic);
         if answers.step.is_ok() {
             statistic.refused(Request::Step, Refusal::of_request(Fault::Room));
         }
@@ -33,16 +33,16 @@ fn survey(seed: u64, count: u64) -> ExitCode {
             statistic.refused(Request::Outlook, Refusal::of_request(Fault::Room));
         }
         if let Err(difference) = check_by_book(&papers, &mut random_of(!seed, index)) {
-            println!("seed {seed}, case {index}: {difference}\n{papers}");
+            say(&format!("seed {seed}, case {index}: {difference}\n{papers}\n"));
             return ExitCode::FAILURE;
         }
     }
     let (table, all_met) = statistic.table();
-    print!("{table}");
+    say(&table);
     if !all_met && count >= ENOUGH_CASES {
-        println!("a number of a paper was never met");
+        say("a number of a paper was never met\n");
         return ExitCode::FAILURE;
     }
-    println!("{count} cases from seed {seed}, all as in the book");
+    say(&format!("{count} cases from seed {seed}, all as in the book\n"));
     ExitCode::SUCCESS
 }

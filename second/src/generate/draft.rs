@@ -92,7 +92,8 @@ impl Draft {
 
     pub fn new_name(&self, random: &mut Random) -> String {
         loop {
-            let name = name(random);
+            let name = if random.chance(4) { self.some_name(random) } else { name(random) };
+            let name = if random.chance(4) { beside(random, name) } else { name };
             if !self.is_used(&name) {
                 return name;
             }
@@ -134,7 +135,7 @@ impl Draft {
     fn add_status(&mut self, random: &mut Random, parent: Option<usize>, stage: bool) {
         let name = self.new_name(random);
         self.statuses.push(Status { name, parent });
-        let mut draw = || random.next() % 1_000;
+        let mut draw = || random.draw() % 1_000;
         let (mut plus, mut minus) = (draw(), draw());
         if let Some(parent) = parent {
             let (parent_plus, parent_minus) = (self.keys[2 * parent], self.keys[2 * parent + 1]);
@@ -338,6 +339,21 @@ pub fn name(random: &mut Random) -> String {
     }
     match name.as_str() {
         "on" | "if" | "or" | "and" | "not" | "end" => name + "x",
+        _ => name,
+    }
+}
+
+/// A name that differs little from another: longer or shorter by a byte at its end, or with another last byte.
+fn beside(random: &mut Random, mut name: String) -> String {
+    let last = random.pick(&['0', '9', 'a', 'z', '1', 'b']);
+    if name.len() == 12 || (name.len() > 1 && random.chance(2)) {
+        name.pop();
+    }
+    if name.len() == 11 || random.chance(2) {
+        name.push(last);
+    }
+    match name.as_str() {
+        "on" | "if" | "or" | "and" | "not" | "end" => name + "0",
         _ => name,
     }
 }
