@@ -92,10 +92,11 @@ impl ConditionReader<'_, '_> {
     /// A condition up to and with the LF behind it.
     pub fn whole(mut self) -> Result<Condition, Fault> {
         let condition = self.condition(0)?;
-        match self.reader.at_end() || self.reader.next_is(b'\n') {
-            true => self.reader.line_end().map(|()| condition),
-            false => Err(Fault::Cond),
+        if !self.reader.at_end() && !self.reader.next_is(b'\n') {
+            return Err(Fault::Cond);
         }
+        self.reader.line_end()?;
+        Ok(condition)
     }
 
     fn condition(&mut self, depth: usize) -> Result<Condition, Fault> {
@@ -129,11 +130,10 @@ impl ConditionReader<'_, '_> {
         }
         if self.reader.take(b"(") {
             let group = self.condition(deeper(depth)?)?;
-            return match self.reader.take(b")") {
-                true => Ok(group),
-                false if self.reader.at_end() => Err(Fault::Line),
-                false => Err(Fault::Cond),
-            };
+            if self.reader.at_end() {
+                return Err(Fault::Line);
+            }
+            return if self.reader.take(b")") { Ok(group) } else { Err(Fault::Cond) };
         }
         self.leaf()
     }

@@ -10,14 +10,20 @@ pub use random::Random;
 use crate::{
     limits::{Listing, Shape},
     papers::Papers,
+    refusal::Fault,
+    sheet::Sheet,
 };
 use draft::{Draft, LARGE, MIDDLE, SMALL, TINY};
 
 pub fn generate(seed: u64, index: u64) -> Papers {
     let random = &mut random_of(seed, index);
     let mut papers = drawn(random);
-    if random.percent(45) {
-        let words = words(&papers);
+    let words = words(&papers);
+    if let Some(line) = full_line(&papers)
+        && random.chance(2)
+    {
+        damage::damage_line(random, &mut papers.sheet, line, &words);
+    } else if random.percent(45) {
         let times = random.pick(&[1, 1, 1, 1, 2, 2, 3]);
         for _ in 0..times {
             let paper = match random.below(5) {
@@ -55,6 +61,12 @@ fn full_sheet(random: &mut Random) -> Papers {
     let missing = if random.chance(20) { 12 } else { random.below(6) };
     let listing = random.pick(&Listing::ALL);
     Shape { missing, listing, bytes: Some(32_767 + random.below(3)), ..Shape::FULL }.papers()
+}
+
+/// The line that is over a limit, if one is: what stands on it may be wrong in other ways too.
+fn full_line(papers: &Papers) -> Option<usize> {
+    let refusal = Sheet::read(&papers.sheet).err()?;
+    (refusal.fault == Fault::Full).then_some(refusal.line)
 }
 
 /// The names in the papers, each once.

@@ -126,7 +126,7 @@ const LINES: [&str; 20] = [
 
 /// Damages a paper once. `words` are names that stand in the papers.
 pub fn damage(random: &mut Random, paper: &mut Vec<u8>, words: &[Vec<u8>]) {
-    match random.below(22) {
+    match random.below(25) {
         0 => change_byte(random, paper),
         1 => insert(random, paper, |random| vec![random.pick(BYTES)]),
         2 => remove_byte(random, paper),
@@ -171,6 +171,9 @@ pub fn damage(random: &mut Random, paper: &mut Vec<u8>, words: &[Vec<u8>]) {
             lines[index].truncate(keep);
         }),
         20 => end_behind_word(random, paper),
+        21 => other_last_byte(random, paper),
+        22 => other_second_name(random, paper, words, true),
+        23 => other_second_name(random, paper, words, false),
         _ => {
             if paper.last() == Some(&b'\n') {
                 paper.pop();
@@ -264,6 +267,58 @@ fn insert_beside_word(random: &mut Random, paper: &mut Vec<u8>) {
         let at = if random.chance(2) { place.start } else { place.end };
         paper.splice(at..at, random.pick(&PIECES).bytes());
     }
+}
+
+fn other_last_byte(random: &mut Random, paper: &mut [u8]) {
+    let places = words_of(paper);
+    if !places.is_empty() {
+        let place = random.pick(&places);
+        paper[place.end - 1] = random.pick(b"0189abyz");
+    }
+}
+
+/// In a line of the sheet that has a space, the name behind it becomes another one, or stands there twice.
+fn other_second_name(random: &mut Random, paper: &mut Vec<u8>, words: &[Vec<u8>], other: bool) {
+    lines(random, paper, |random, lines| {
+        let keys: [&[u8]; 3] = [b"stage=", b"mile=", b"event="];
+        let heads: Vec<usize> = (0..lines.len())
+            .filter(|&index| keys.iter().any(|key| lines[index].starts_with(key)) && lines[index].contains(&b' '))
+            .collect();
+        if heads.is_empty() || words.is_empty() {
+            return;
+        }
+        let line = &mut lines[random.pick(&heads)];
+        // The key is a word too.
+        let behind: Vec<Range<usize>> = words_of(line).into_iter().skip(2).collect();
+        if behind.is_empty() {
+            return;
+        }
+        let place = random.pick(&behind);
+        let mut name = if other { random.pick(words) } else { line[place.clone()].to_vec() };
+        if !other {
+            name.push(b' ');
+            name.extend_from_within(..name.len() - 1);
+        }
+        line.splice(place, name);
+    });
+}
+
+/// Damages a word of one line, most often one of the last.
+pub fn damage_line(random: &mut Random, paper: &mut Vec<u8>, number: usize, words: &[Vec<u8>]) {
+    lines(random, paper, |random, lines| {
+        let Some(line) = lines.get_mut(number - 1) else { return };
+        let places = words_of(line);
+        if places.is_empty() {
+            return;
+        }
+        let back = random.below(places.len().min(3));
+        let place = places[places.len() - 1 - back].clone();
+        let word = if random.chance(2) { random.pick(&WORDS).into() } else { random.pick(words) };
+        line.splice(place.clone(), word);
+        if random.chance(4) {
+            line.truncate(place.start + random.below(4));
+        }
+    });
 }
 
 /// The paper ends behind a word, or one byte later.
