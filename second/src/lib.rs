@@ -1,17 +1,14 @@
 //! A second implementation of the rules, written from their document alone and by other ways where there are some.
 //!
 //! `step`, `outlook` and `desk` answer as the document says. `book` checks them the slow way on small sheets,
-//! `generate` makes papers from a seed, `examples` holds the document's own, and `doors` (a feature) leads to the
-//! library's C functions.
+//! `generate` makes papers from a seed, and `examples` holds the document's own.
 
-#![deny(unsafe_code)]
+#![forbid(unsafe_code)]
 
 pub mod book;
 pub mod card;
 pub mod condition;
 pub mod desk;
-#[cfg(feature = "doors")]
-pub mod doors;
 pub mod examples;
 pub mod generate;
 pub mod graph;

@@ -8,7 +8,6 @@ use std::{
 };
 
 use second::{
-    doors,
     examples::{CARD_Q, SHEET_P},
     limits::{Listing, Shape},
     papers::Papers,
@@ -70,9 +69,9 @@ fn heading(text: &str) {
 
 fn step(name: &str, papers: &Papers) {
     let mut space = vec![0; 1_024];
-    assert_eq!(doors::step(&papers.sheet, &papers.card, &papers.event, &mut space)[0], 0, "{name} is taken");
+    assert_eq!(reambodkin::step(&papers.sheet, &papers.card, &papers.event, &mut space).number, 0, "{name} is taken");
     let library = || {
-        black_box(doors::step(black_box(&papers.sheet), &papers.card, &papers.event, &mut space));
+        black_box(reambodkin::step(black_box(&papers.sheet), &papers.card, &papers.event, &mut space));
     };
     let second = || {
         black_box(second::step(black_box(&papers.sheet), &papers.card, &papers.event, 1_024)).ok();
@@ -82,9 +81,13 @@ fn step(name: &str, papers: &Papers) {
 
 fn outlook(name: &str, papers: &Papers) {
     let mut space = vec![0; 4_096];
-    assert_eq!(doors::outlook(&papers.sheet, &papers.card, &papers.event, &mut space)[0], 0, "{name} is taken");
+    assert_eq!(
+        reambodkin::outlook(&papers.sheet, &papers.card, &papers.event, &mut space).number,
+        0,
+        "{name} is taken"
+    );
     let library = || {
-        black_box(doors::outlook(black_box(&papers.sheet), &papers.card, &papers.event, &mut space));
+        black_box(reambodkin::outlook(black_box(&papers.sheet), &papers.card, &papers.event, &mut space));
     };
     let second = || {
         black_box(second::outlook(black_box(&papers.sheet), &papers.card, &papers.event, 4_096)).ok();

@@ -4,18 +4,18 @@
 use std::process::ExitCode;
 
 use second::{
-    Fault, Refusal, doors,
-    examples::{corner_examples, desk_examples},
+    Fault, Refusal,
+    examples::corner_examples,
     generate::{generate, random_of},
     papers::Papers,
     statistic::{Request, Statistic},
     survey::{Answers, ENOUGH_CASES, check_by_book, on_large_stack, say, seed_and_count},
 };
 
-/// More than the desk can print.
-const DESK_OUTPUT: usize = 96 << 10;
 /// Entries or bytes behind the lent space, which must stay as they are.
 const GUARD: usize = 32;
+/// Number, paper, line, count (bytes of the card or entries of the list), tasks.
+type Reply = [u64; 5];
 
 fn main() -> ExitCode {
     let (seed, count) = match seed_and_count() {
@@ -35,8 +35,9 @@ fn main() -> ExitCode {
 }
 
 fn compare_all(seed: u64, count: u64) -> Result<(), String> {
-    let mut comparison = Comparison::new();
-    for example in desk_examples() {
+    let mut comparison = Comparison { statistic: Statistic::default(), calls: 0 };
+    #[cfg(feature = "desk")]
+    for example in second::examples::desk_examples() {
         comparison.desk(&example.input, example.output.as_bytes()).map_err(|difference| {
             format!("example {}: {difference}\n{}", example.name, example.input.escape_ascii())
         })?;
@@ -69,8 +70,6 @@ fn compare_all(seed: u64, count: u64) -> Result<(), String> {
 struct Comparison {
     statistic: Statistic,
     calls: u64,
-    /// The desk's space, filled with the pattern between calls.
-    space: Vec<u8>,
 }
 
 /// What stands in lent space before a call.
@@ -95,10 +94,6 @@ fn rooms(need: Option<usize>, more: usize) -> Vec<usize> {
 }
 
 impl Comparison {
-    fn new() -> Comparison {
-        Comparison { statistic: Statistic::default(), calls: 0, space: (0..DESK_OUTPUT).map(byte_pattern).collect() }
-    }
-
     fn papers(&mut self, papers: &Papers) -> Result<(), String> {
         let answers = Answers::of(papers);
         answers.count(papers, &mut self.statistic);
@@ -108,7 +103,9 @@ impl Comparison {
         for room in rooms(answers.outlook.as_ref().ok().map(Vec::len), 64) {
             self.outlook(papers, &answers.outlook, room)?;
         }
-        self.desk(&papers.joined(), &answers.desk)
+        #[cfg(feature = "desk")]
+        self.desk(&papers.joined(), &answers.desk)?;
+        Ok(())
     }
 
     fn step(&mut self, papers: &Papers, room: usize) -> Result<(), String> {
@@ -121,11 +118,10 @@ impl Comparison {
             }
             Err(refusal) => self.refusal(Request::Step, refusal),
         };
-        let reply = doors::step(&papers.sheet, &papers.card, &papers.event, &mut space[..room]);
-        self.calls += 1;
-        if reply != expected {
-            return Err(format!("step with {room} bytes lent: library {reply:?}, second {expected:?}"));
-        }
+        self.told(expected, |reply| {
+            reambodkin::step_into(&papers.sheet, &papers.card, &papers.event, &mut space[..room], reply)
+        })
+        .map_err(|difference| format!("step with {room} bytes lent, {difference}"))?;
         match difference(&space, &expected_space) {
             None => Ok(()),
             Some(at) => Err(format!(
@@ -147,11 +143,10 @@ impl Comparison {
             }
             Err(refusal) => self.refusal(Request::Outlook, *refusal),
         };
-        let reply = doors::outlook(&papers.sheet, &papers.card, &papers.event, &mut space[..room]);
-        self.calls += 1;
-        if reply != expected {
-            return Err(format!("outlook with {room} entries lent: library {reply:?}, second {expected:?}"));
-        }
+        self.told(expected, |reply| {
+            reambodkin::outlook_into(&papers.sheet, &papers.card, &papers.event, &mut space[..room], reply)
+        })
+        .map_err(|difference| format!("outlook with {room} entries lent, {difference}"))?;
         match difference(&space, &expected_space) {
             None => Ok(()),
             Some(at) => Err(format!(
@@ -161,28 +156,55 @@ impl Comparison {
         }
     }
 
-    fn desk(&mut self, input: &[u8], expected: &[u8]) -> Result<(), String> {
-        let length = doors::desk(input, &mut self.space);
+    /// The reply in five places and in more; now and then in too few, which must leave all as it is.
+    fn told(&mut self, expected: Reply, mut call: impl FnMut(&mut [u64]) -> u64) -> Result<(), String> {
         self.calls += 1;
-        if length > self.space.len() || self.space[..length] != *expected {
-            let printed = &self.space[..length.min(self.space.len())];
+        let places = (self.calls % 8) as usize;
+        let before: Vec<u64> = (0..8).map(|index| u64::from(pattern(index)) << 16).collect();
+        if places < 5 {
+            let mut reply = before.clone();
+            let number = call(&mut reply[..places]);
+            if number != Fault::Room as u64 || reply != before {
+                return Err(format!("reply with {places} places: library {number}, {reply:?}"));
+            }
+        }
+        let mut after = before.clone();
+        after[..5].copy_from_slice(&expected);
+        let mut reply = before;
+        let number = call(&mut reply[..places.max(5)]);
+        if number != expected[0] || reply != after {
             return Err(format!(
-                "desk, {length} bytes:\n{}\nsecond, {} bytes:\n{}",
-                printed.escape_ascii(),
-                expected.len(),
-                expected.escape_ascii()
+                "reply with {} places: library {number}, {reply:?}, second {expected:?}",
+                places.max(5)
             ));
-        }
-        if (length..self.space.len()).any(|index| self.space[index] != byte_pattern(index)) {
-            return Err("desk: the space behind its output is touched".into());
-        }
-        for index in 0..length {
-            self.space[index] = byte_pattern(index);
         }
         Ok(())
     }
 
-    fn refusal(&mut self, request: Request, refusal: Refusal) -> doors::Reply {
+    #[cfg(feature = "desk")]
+    fn desk(&mut self, input: &[u8], expected: &[u8]) -> Result<(), String> {
+        /// More than the desk can print.
+        const OUTPUT: usize = 96 << 10;
+        static BEFORE: std::sync::LazyLock<Vec<u8>> =
+            std::sync::LazyLock::new(|| (0..OUTPUT).map(byte_pattern).collect());
+        let mut space = BEFORE.clone();
+        let length = reambodkin::desk(input, &mut space);
+        self.calls += 1;
+        if length > OUTPUT || space[..length] != *expected {
+            return Err(format!(
+                "desk, {length} bytes:\n{}\nsecond, {} bytes:\n{}",
+                space[..length.min(OUTPUT)].escape_ascii(),
+                expected.len(),
+                expected.escape_ascii()
+            ));
+        }
+        if space[length..] != BEFORE[length..] {
+            return Err("desk: the space behind its output is touched".into());
+        }
+        Ok(())
+    }
+
+    fn refusal(&mut self, request: Request, refusal: Refusal) -> Reply {
         if refusal.fault == Fault::Room {
             self.statistic.refused(request, refusal);
         }
