@@ -31,11 +31,11 @@ module _ (places : List ℕ) (few : length places < 5) where
 
   pub few-number : (x : Reply) → 9 ≡ numberTold places x
   unfolding numberTold
-  few-number x = sym (with-few (x .number) 9)
+  few-number x = sym (with-few _ 9)
 
   pub few-places : (x : Reply) → places ≡ placesTold places x
   unfolding placesTold
-  few-places x = sym (with-few (numbers x ++ drop 5 places) places)
+  few-places x = sym (with-few _ places)
 
   pub few-space : (x lent : List ℕ) → lent ≡ withPlaces places x lent
   few-space x lent = sym (with-few x lent)
