@@ -14,9 +14,9 @@ use second::{
     survey::{on_large_stack, say},
 };
 
-const RUNS: usize = 9;
+const RUNS: usize = 31;
 /// How long one run of one side takes, about.
-const RUN: Duration = Duration::from_millis(12);
+const RUN: Duration = Duration::from_millis(4);
 
 fn main() {
     on_large_stack(bench);
