@@ -1,0 +1,3 @@
+-- Laws of the doors for other languages, return by return:
+pub mod Laws
+pub mod Only

@@ -1,0 +1,2 @@
+-- How a reply is told in lent places:
+pub mod Exports

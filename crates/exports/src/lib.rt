@@ -1,0 +1,64 @@
+// The doors for other languages. A slice is a pointer and a length; the reply's numbers go into lent places.
+ghost use mathlib.Core.Path.{_≡_};
+ghost use mathlib.Core.List.{_++_};
+ghost use Prim.Native.Nat.{_≤_};
+ghost use lib.ListN.{length, drop};
+ghost use Rattle.meaning.specs.Doors.{stepReply, stepSpace, outlookReply, outlookSpace};
+ghost use Rattle.case.specs.Answers.{asReply};
+ghost use Rattle.exports.specs.Exports.{numbers, withPlaces, numberTold, placesTold};
+use case::Reply;
+
+// Puts the numbers of a reply into the first five places, and tells the first.
+fn tell(told: Reply, reply: &mut [u64]) -> u64
+    requires { ⌜ 5 ≤ length (now reply) ⌝ }
+    ensures answer { λ r. ⌜ r ≡ told .number ⌝ }
+    ensures places { λ r. ⌜ now (reply .exit) ≡ numbers told ++ drop 5 (now (reply .entry)) ⌝ }
+{
+    let number = told.number as u64;
+    reply[0] = number;
+    reply[1] = told.paper as u64;
+    reply[2] = told.line as u64;
+    reply[3] = told.count as u64;
+    reply[4] = told.tasks as u64;
+    number
+}
+
+// The step. Where `reply` has fewer than five places nothing is touched and 9 is returned.
+#[no_mangle]
+pub extern "C" fn reambodkin_step<'a>(
+    sheet: &[u8],
+    card: &'a [u8],
+    event: &'a [u8],
+    out: &mut [u8],
+    reply: &mut [u64],
+) -> u64
+    ensures answer { λ r. ⌜ r ≡ numberTold (now (reply .entry)) (asReply (stepReply (now (sheet .entry)) (now (card .entry)) (now (event .entry)) (length (now (out .entry))))) ⌝ }
+    ensures places { λ r. ⌜ now (reply .exit) ≡ placesTold (now (reply .entry)) (asReply (stepReply (now (sheet .entry)) (now (card .entry)) (now (event .entry)) (length (now (out .entry))))) ⌝ }
+    ensures space { λ r. ⌜ now (out .exit) ≡ withPlaces (now (reply .entry)) (stepSpace (now (sheet .entry)) (now (card .entry)) (now (event .entry)) (now (out .entry))) (now (out .entry)) ⌝ }
+{
+    if reply.len() < 5 {
+        return 9;
+    }
+    let told = reambodkin::step(sheet, card, event, out);
+    tell(told, reply)
+}
+
+// The outlook, likewise.
+#[no_mangle]
+pub extern "C" fn reambodkin_outlook(
+    sheet: &[u8],
+    card: &[u8],
+    event: &[u8],
+    out: &mut [u32],
+    reply: &mut [u64],
+) -> u64
+    ensures answer { λ r. ⌜ r ≡ numberTold (now (reply .entry)) (asReply (outlookReply (now (sheet .entry)) (now (card .entry)) (now (event .entry)) (length (now (out .entry))))) ⌝ }
+    ensures places { λ r. ⌜ now (reply .exit) ≡ placesTold (now (reply .entry)) (asReply (outlookReply (now (sheet .entry)) (now (card .entry)) (now (event .entry)) (length (now (out .entry))))) ⌝ }
+    ensures space { λ r. ⌜ now (out .exit) ≡ withPlaces (now (reply .entry)) (outlookSpace (now (sheet .entry)) (now (card .entry)) (now (event .entry)) (now (out .entry))) (now (out .entry)) ⌝ }
+{
+    if reply.len() < 5 {
+        return 9;
+    }
+    let told = reambodkin::outlook(sheet, card, event, out);
+    tell(told, reply)
+}

@@ -1,0 +1,120 @@
+//! Reambodkin's two requests over the bytes of three papers, as safe functions on slices. `include/reambodkin.h` has
+//! the contract in words.
+
+#![no_std]
+
+/// What a request returns: `number` is 0 when the papers are taken, otherwise the refusal's, with its paper and line.
+#[derive(Clone, Copy, Debug, PartialEq, Eq)]
+pub struct Reply {
+    pub number: u8,
+    pub paper: u8,
+    pub line: usize,
+    /// How many entries of the lent space were written.
+    pub count: usize,
+    /// The tasks started, as a pattern; of the step alone.
+    pub tasks: u32,
+}
+
+impl Reply {
+    fn of([number, paper, line, count, tasks]: [u64; 5]) -> Reply {
+        Reply {
+            number: number as u8,
+            paper: paper as u8,
+            line: line as usize,
+            count: count as usize,
+            tasks: tasks as u32,
+        }
+    }
+}
+
+/// Puts the next card at the start of `out`, 1,024 bytes at most; a refusal leaves `out` untouched.
+pub fn step(sheet: &[u8], card: &[u8], event: &[u8], out: &mut [u8]) -> Reply {
+    let mut reply = [0; 5];
+    step_into(sheet, card, event, out, &mut reply);
+    Reply::of(reply)
+}
+
+/// Puts every pattern that may still come at the start of `out`, ascending, 4,096 at most; a refusal leaves `out`
+/// untouched.
+pub fn outlook(sheet: &[u8], card: &[u8], event: &[u8], out: &mut [u32]) -> Reply {
+    let mut reply = [0; 5];
+    outlook_into(sheet, card, event, out, &mut reply);
+    Reply::of(reply)
+}
+
+/// The step as the library has it: the five numbers go to the start of `reply`, and the first is returned; 9, and
+/// nothing touched, where `reply` is too short.
+pub fn step_into(sheet: &[u8], card: &[u8], event: &[u8], out: &mut [u8], reply: &mut [u64]) -> u64 {
+    // SAFETY: each pointer comes from a slice of the length given with it; `out` and `reply` are lent to this call alone.
+    unsafe {
+        library::reambodkin_step(
+            sheet.as_ptr(),
+            sheet.len(),
+            card.as_ptr(),
+            card.len(),
+            event.as_ptr(),
+            event.len(),
+            out.as_mut_ptr(),
+            out.len(),
+            reply.as_mut_ptr(),
+            reply.len(),
+        )
+    }
+}
+
+/// The outlook as the library has it, likewise.
+pub fn outlook_into(sheet: &[u8], card: &[u8], event: &[u8], out: &mut [u32], reply: &mut [u64]) -> u64 {
+    // SAFETY: as above.
+    unsafe {
+        library::reambodkin_outlook(
+            sheet.as_ptr(),
+            sheet.len(),
+            card.as_ptr(),
+            card.len(),
+            event.as_ptr(),
+            event.len(),
+            out.as_mut_ptr(),
+            out.len(),
+            reply.as_mut_ptr(),
+            reply.len(),
+        )
+    }
+}
+
+/// The length of the desk's output, which stands at the start of `out`.
+#[cfg(feature = "desk")]
+pub fn desk(input: &[u8], out: &mut [u8]) -> usize {
+    // SAFETY: as above.
+    unsafe { library::reambodkin_desk(input.as_ptr(), input.len(), out.as_mut_ptr(), out.len()) }
+}
+
+mod library {
+    unsafe extern "C" {
+        pub fn reambodkin_step(
+            sheet: *const u8,
+            sheet_len: usize,
+            card: *const u8,
+            card_len: usize,
+            event: *const u8,
+            event_len: usize,
+            out: *mut u8,
+            out_len: usize,
+            reply: *mut u64,
+            reply_len: usize,
+        ) -> u64;
+        pub fn reambodkin_outlook(
+            sheet: *const u8,
+            sheet_len: usize,
+            card: *const u8,
+            card_len: usize,
+            event: *const u8,
+            event_len: usize,
+            out: *mut u32,
+            out_len: usize,
+            reply: *mut u64,
+            reply_len: usize,
+        ) -> u64;
+        #[cfg(feature = "desk")]
+        pub fn reambodkin_desk(input: *const u8, input_len: usize, out: *mut u8, out_len: usize) -> usize;
+    }
+}

@@ -1,0 +1,33 @@
+//! The examples of the repository, through the safe functions.
+
+use reambodkin::{Reply, outlook, step};
+
+const SHEET: &[u8] = include_bytes!("../../examples/parcel.sheet");
+const CARD: &[u8] = include_bytes!("../../examples/parcel.card");
+const MISSING: &[u8] = include_bytes!("../../examples/looked-missing.event");
+const FITTING: &[u8] = include_bytes!("../../examples/looked-900.event");
+
+#[test]
+fn fitting_income_opens_the_packing() {
+    let mut out = [0; 1_024];
+    let reply = step(SHEET, CARD, FITTING, &mut out);
+    let card = b"case=parcel\nincome=900\npeople=3\nreview=yes\npack=yes\nfit=yes\nunfit=no\nend=6\n";
+    assert_eq!(reply, Reply { number: 0, paper: 0, line: 0, count: card.len(), tasks: 2 });
+    assert_eq!(&out[..reply.count], card);
+}
+
+#[test]
+fn missing_income_leaves_two_patterns() {
+    let mut out = [0; 4_096];
+    let reply = outlook(SHEET, CARD, MISSING, &mut out);
+    assert_eq!(reply, Reply { number: 0, paper: 0, line: 0, count: 2, tasks: 0 });
+    assert_eq!(out[..reply.count], [7, 9]);
+}
+
+#[test]
+fn a_refusal_names_paper_and_line() {
+    let mut out = [7; 1_024];
+    let reply = step(SHEET, CARD, b"looked", &mut out);
+    assert_eq!((reply.number, reply.paper, reply.line), (2, 3, 1));
+    assert_eq!(out, [7; 1_024]);
+}

@@ -1,0 +1,48 @@
+//! `survey [SEED] [COUNT]`: what the generator reaches, and the second implementation checked by the book. No library.
+
+use std::process::ExitCode;
+
+use second::{
+    generate::{generate, random_of},
+    refusal::{Fault, Refusal},
+    statistic::{Request, Statistic},
+    survey::{Answers, ENOUGH_CASES, check_by_book, on_large_stack, say, seed_and_count},
+};
+
+fn main() -> ExitCode {
+    let (seed, count) = match seed_and_count() {
+        Ok(given) => given,
+        Err(usage) => {
+            eprintln!("{usage}");
+            return ExitCode::FAILURE;
+        }
+    };
+    on_large_stack(move || survey(seed, count))
+}
+
+fn survey(seed: u64, count: u64) -> ExitCode {
+    let mut statistic = Statistic::default();
+    for index in 0..count {
+        let papers = generate(seed, index);
+        let answers = Answers::of(&papers);
+        answers.count(&papers, &mut statistic);
+        if answers.step.is_ok() {
+            statistic.refused(Request::Step, Refusal::of_request(Fault::Room));
+        }
+        if answers.outlook.is_ok() {
+            statistic.refused(Request::Outlook, Refusal::of_request(Fault::Room));
+        }
+        if let Err(difference) = check_by_book(&papers, &mut random_of(!seed, index)) {
+            say(&format!("seed {seed}, case {index}: {difference}\n{papers}\n"));
+            return ExitCode::FAILURE;
+        }
+    }
+    let (table, all_met) = statistic.table();
+    say(&table);
+    if !all_met && count >= ENOUGH_CASES {
+        say("a number of a paper was never met\n");
+        return ExitCode::FAILURE;
+    }
+    say(&format!("{count} cases from seed {seed}, all as in the book\n"));
+    ExitCode::SUCCESS
+}

@@ -1,0 +1,57 @@
+//! The desk program, from its input to its output.
+
+use crate::{
+    outlook,
+    refusal::{Fault, Refusal},
+    step::Case,
+};
+
+pub const DESK_BYTES: usize = 34_304;
+
+pub fn desk(input: &[u8]) -> Vec<u8> {
+    let mut output = Vec::new();
+    if let Err(refusal) = answer(input, &mut output) {
+        let [number, paper, line] = refusal.numbers();
+        output = format!("refused={number} {paper} {line}\n").into_bytes();
+    }
+    output
+}
+
+fn answer(input: &[u8], output: &mut Vec<u8>) -> Result<(), Refusal> {
+    if input.len() > DESK_BYTES {
+        return Err(Refusal::of_request(Fault::Long));
+    }
+    let (sheet, rest) = split(input);
+    let (card, event) = split(rest);
+    let case = Case::read(sheet, card, event)?;
+    let next = case.next();
+    output.extend_from_slice(&next.card);
+    for (index, status) in case.sheet.names.statuses.iter().enumerate() {
+        if next.tasks >> index & 1 == 1 {
+            for part in [b"start=", status.name, b"\n"] {
+                output.extend_from_slice(part);
+            }
+        }
+    }
+    match outlook::patterns(&case) {
+        Some(patterns) => {
+            for pattern in patterns {
+                output.extend_from_slice(format!("outlook={pattern}\n").as_bytes());
+            }
+        }
+        None => output.extend_from_slice(b"outlook=refused\n"),
+    }
+    Ok(())
+}
+
+/// Up to and with the first line that begins `end=`, and what is left.
+pub fn split(bytes: &[u8]) -> (&[u8], &[u8]) {
+    let mut end = 0;
+    for line in bytes.split_inclusive(|byte| *byte == b'\n') {
+        end += line.len();
+        if line.starts_with(b"end=") {
+            break;
+        }
+    }
+    bytes.split_at(end)
+}

@@ -1,0 +1,114 @@
+//! One case looked at from all sides by the second implementation: its answers counted, small ones checked by the book.
+
+use std::io::Write;
+
+use crate::{
+    Next, book,
+    generate::Random,
+    papers::Papers,
+    refusal::{Fault, Paper, Refusal},
+    sheet::Sheet,
+    statistic::{Request, Statistic},
+    step::Case,
+};
+
+/// What the second implementation answers with room for everything.
+pub struct Answers {
+    pub step: Result<Next, Refusal>,
+    pub outlook: Result<Vec<u32>, Refusal>,
+    pub desk: Vec<u8>,
+}
+
+impl Answers {
+    pub fn of(papers: &Papers) -> Answers {
+        let (sheet, card, event) = (&papers.sheet, &papers.card, &papers.event);
+        Answers {
+            step: crate::step(sheet, card, event, usize::MAX),
+            outlook: crate::outlook(sheet, card, event, usize::MAX),
+            desk: crate::desk(&papers.joined()),
+        }
+    }
+
+    pub fn count(&self, papers: &Papers, statistic: &mut Statistic) {
+        match &self.step {
+            Ok(next) => {
+                let yes = |card: &[u8]| card.split(|byte| *byte == b'\n').map(|line| line.ends_with(b"=yes")).collect();
+                let (before, after): (Vec<bool>, Vec<bool>) = (yes(&papers.card), yes(&next.card));
+                statistic.taken(Request::Step);
+                statistic.stepped(before != after, next.tasks);
+            }
+            Err(refusal) => statistic.refused(Request::Step, *refusal),
+        }
+        match &self.outlook {
+            Ok(patterns) => {
+                statistic.taken(Request::Outlook);
+                statistic.listed(patterns.len());
+            }
+            Err(refusal) => statistic.refused(Request::Outlook, *refusal),
+        }
+        match desk_refusal(&self.desk) {
+            None => statistic.taken(Request::Desk),
+            Some(refusal) => statistic.refused(Request::Desk, refusal),
+        }
+    }
+}
+
+/// The refusal that the desk printed, if it printed one.
+fn desk_refusal(output: &[u8]) -> Option<Refusal> {
+    if output.ends_with(b"\noutlook=refused\n") {
+        return Some(Refusal::of_request(Fault::Many));
+    }
+    let text = std::str::from_utf8(output.strip_prefix(b"refused=")?).ok()?;
+    let numbers: Vec<usize> = text.split_whitespace().filter_map(|word| word.parse().ok()).collect();
+    let [number, paper, line] = numbers[..] else { return None };
+    const FAULTS: [Fault; 10] = [
+        Fault::Long,
+        Fault::Line,
+        Fault::Name,
+        Fault::Number,
+        Fault::Cond,
+        Fault::Full,
+        Fault::Cycle,
+        Fault::Orphan,
+        Fault::Room,
+        Fault::Many,
+    ];
+    const PAPERS: [Paper; 4] = [Paper::None, Paper::Sheet, Paper::Card, Paper::Event];
+    Some(Refusal { fault: *FAULTS.get(number.checked_sub(1)?)?, paper: *PAPERS.get(paper)?, line })
+}
+
+/// Checks the second implementation by the book, where the sheet is small enough.
+pub fn check_by_book(papers: &Papers, random: &mut Random) -> Result<(), String> {
+    if let Ok(sheet) = Sheet::read(&papers.sheet) {
+        book::check_graph(&sheet)?;
+    }
+    if let Ok(case) = Case::read(&papers.sheet, &papers.card, &papers.event) {
+        book::check_case(&case, random)?;
+    }
+    Ok(())
+}
+
+/// Prints a text; a reader that has gone away is no fault.
+pub fn say(text: &str) {
+    let _ = std::io::stdout().write_all(text.as_bytes());
+}
+
+/// Runs on a thread with a large stack.
+pub fn on_large_stack<T: Send + 'static>(work: impl FnOnce() -> T + Send + 'static) -> T {
+    let thread = std::thread::Builder::new().stack_size(256 << 20).spawn(work).expect("a thread starts");
+    thread.join().expect("the work ends")
+}
+
+/// SEED and COUNT from the command line.
+pub fn seed_and_count() -> Result<(u64, u64), String> {
+    let numbers: Result<Vec<u64>, _> = std::env::args().skip(1).map(|argument| argument.parse()).collect();
+    match numbers.as_deref() {
+        Ok([]) => Ok((1, 100_000)),
+        Ok([seed]) => Ok((*seed, 100_000)),
+        Ok([seed, count]) => Ok((*seed, *count)),
+        _ => Err("the arguments are [SEED] [COUNT], whole numbers".into()),
+    }
+}
+
+/// From so many cases on, each number of each paper must be met.
+pub const ENOUGH_CASES: u64 = 20_000;
