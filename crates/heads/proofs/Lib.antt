@@ -4,4 +4,3 @@ pub mod Status
 pub mod Statuses
 -- All sections together:
 pub mod Whole
-pub mod Callers

@@ -1,7 +1,7 @@
--- Laws of runs of digits, of numbers and of values, and what callers use:
+-- What callers use, laws of runs of digits, of numbers and of values:
+pub mod Callers
 pub mod Laws
 pub mod Numbers
 pub mod Entries
 pub mod Ends
-pub mod Callers
 pub mod Only

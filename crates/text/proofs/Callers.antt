@@ -1,60 +1,40 @@
 -- What a caller may conclude from the answers of this crate, for every line: what was read, and where the rest begins.
 use mathlib.Core.Path.{_≡_, refl, sym, _∙_}
-use mathlib.Core.Bool.{Bool, true, false}
-use mathlib.Core.List.{List, [], _∷_, map}
+use mathlib.Core.Bool.{Bool, true, false, not}
+use mathlib.Core.List.{List, [], map, append-nil}
 use mathlib.Core.Option.{Option, none, some}
-use Prim.Native.Nat.{ℕ, suc, _<_, _≤_}
+use Prim.Native.Nat.{ℕ, suc, _-_, _<_, _≤_}
 use native.Mathlib.Omega.{arith}
-use lib.Dec.{eqb}
 use lib.ListN.{length, drop, take}
-use Rattle.meaning.specs.Text.{text, begins, same, among, find, later, isIn}
+use Rattle.meaning.specs.Text.{text, begins, among, find}
 use Rattle.meaning.specs.Reading.{got, wrong, notEnded, stands, due, lineEnd}
-use Rattle.meaning.specs.Name.{goodName, name, newName, dueName, known}
-use Rattle.theory.specs.Names.{find-below}
+use Rattle.meaning.specs.Name.{Name, name, newName, placed, known}
+use Rattle.theory.specs.Built.{name-built, newName-built, known-built, notEnded-built}
+use Rattle.theory.specs.Readers.{ensures-weaker}
+use Rattle.theory.specs.Spelling.{Spells, give-spells, bind-spells, demand-spells, name-spells, due-spells}
+use Rattle.theory.specs.Names.{Good, good-short, name-good, newName-new, known-below}
+use Rattle.theory.specs.Told as Told
+use Rattle.theory.specs.Told.{Told, Any, took, told-give, told-choose, told-bind, told-stands, inline-told, told-ensured, spelled-took, notEnded-none, notEnded-some}
 use Rattle.text.specs.declared.Bytes.{Bytes}
 use Rattle.text.specs.declared.Bytes.the-variants as B
 use Rattle.text.specs.declared.NamePiece.{NamePiece}
 use Rattle.text.specs.declared.NamePiece.the-variants as N
 use Rattle.text.specs.declared.Known.{Known}
 use Rattle.text.specs.declared.Known.the-variants as K
-use Rattle.text.specs.declared.Found.{Found}
 use Rattle.text.specs.declared.Found.the-variants as F
 use Rattle.text.specs.Packed.{packed, named}
 use Rattle.text.specs.Answers.{asBytes, asName, asKnown, foundIn}
 use Rattle.text.proofs.Laws as Laws
 use Rattle.text.proofs.Packs as Packs
 use Rattle.text.proofs.Packs.{Packable, placeOf}
-use Rattle.text.proofs.Steps as Steps
-use Rattle.text.proofs.Steps.{Took, Step, took, failed, Bites}
-use Rattle.text.proofs.Pieces as Pieces
-use Rattle.text.proofs.Pieces.{Spelt, name-step, name-taken, due-is, among-place}
+use Rattle.text.proofs.Steps.{Took, Spelt, refused, bytes-refuses, name-refuses, known-refuses, bytes-took, known-took, name-took}
 
 -- NAMES AND THEIR NUMBERS, of a packable text w: what a reader of names gave is one
 pub named-packed : (w : List ℕ) → Packable w → named (packed w) ≡ w
 named-packed = Packs.named-packed
 
-pub same-named : (w : List ℕ) → Packable w → (v : ℕ) → same w (named v) ≡ eqb (packed w) v
-same-named = Packs.same-named
-
 pub find-named : (w : List ℕ) → Packable w → (vs : List ℕ) → find w (map named vs) ≡ placeOf (foundIn (packed w) vs)
 find-named = Packs.find-named
-
-pub among-named : (w : List ℕ) → Packable w → (vs : List ℕ) → among w (map named vs) ≡ isIn (packed w) vs
-among-named = Packs.among-named
-
--- the same of what find told
-module _ (w : List ℕ) (p : Packable w) (vs : List ℕ) (f : Found) (is : f ≡ foundIn (packed w) vs) where
-  pub find-at : (i : ℕ) → f ≡ F.At i → find w (map named vs) ≡ some i
-  find-at i e = Packs.find-named w p vs ∙ rw (← is, e)
-
-  pub find-nothing : f ≡ F.Nothing → find w (map named vs) ≡ none
-  find-nothing e = Packs.find-named w p vs ∙ rw (← is, e)
-
-  pub among-at : (i : ℕ) → f ≡ F.At i → among w (map named vs) ≡ true
-  among-at i e = among-place w (map named vs) ∙ rw (find-at i e)
-
-  pub among-nothing : f ≡ F.Nothing → among w (map named vs) ≡ false
-  among-nothing e = among-place w (map named vs) ∙ rw (find-nothing e)
 
 -- a place that is found lies in the table
 pub found-within : (v : ℕ) (vs : List ℕ) (i : ℕ) → foundIn v vs ≡ F.At i → i < length vs
@@ -63,161 +43,89 @@ found-within = Laws.found-within
 -- NAMES, from the answer p of name_piece on t
 module _ (p : NamePiece) (t : List ℕ) (is : p ≡ asName (name 0 t)) where
   pub name-wrong : (k : ℕ) → p ≡ N.Refused k → (l : ℕ) → name l t ≡ wrong k l
-  name-wrong = Pieces.name-wrong p t is
+  name-wrong = refused name-refuses (inline-told name-built t) p is
 
   module _ (v n : ℕ) (told : p ≡ N.Name v n) where
+    pub name-spelt : Spelt name t v n
+    name-spelt = name-took name-built name-good name-spells t p is v n told
+
     pub name-got : (l : ℕ) → name l t ≡ got (take n t) l (drop n t)
-    name-got = name-taken p t is v n told .0 .reads
+    name-got = name-spelt .reads
 
     pub name-number : v ≡ packed (take n t)
-    name-number = name-taken p t is v n told .1
+    name-number = name-spelt .number
 
     pub name-packable : Packable (take n t)
-    name-packable = name-taken p t is v n told .0 .also .1 .packable
+    name-packable = name-spelt .packable
 
     pub name-named : named v ≡ take n t
     name-named = rw name-number (Packs.named-packed (take n t) name-packable)
 
-    pub name-good : goodName (take n t) ≡ true
-    name-good = name-taken p t is v n told .0 .also .1 .good
-
     pub name-fits : n ≤ length t
-    name-fits = name-taken p t is v n told .0 .within
-
-    pub name-some : 1 ≤ n
-    name-some = name-taken p t is v n told .0 .also .1 .some
-
-    pub name-few : n ≤ 12
-    name-few = name-taken p t is v n told .0 .also .1 .few
+    name-fits = name-spelt .within
 
 -- NEW NAMES, from the answer p of new_name
--- a good name that is not used
-abbrev Fresh : List ℕ → List (List ℕ) → ℕ → Type 0
-Fresh t used n = Spelt t n × (among (take n t) used ≡ false)
-
-new-step : (used : List (List ℕ)) (t : List ℕ) → Step (newName used) (Bites t (Fresh t used)) t
+new-spells : (used : List Name) → Spells [] (newName used) (λ w. w)
 unfolding newName
-new-step used t = go (name-step t)
-  where
-    tested : (n : ℕ) (w : List ℕ) → Took name (Bites t (Spelt t)) t n w → (b : Bool) → among w used ≡ b → Step (newName used) (Bites t (Fresh t used)) t
-    tested n w s true e = failed 3 (λ l. rw (s .reads l, e))
-    tested n w s false e = took n w record { within = s .within; also = (s .also .0, (s .also .1, rw (s .also .0) at e)); reads = λ l. rw (s .reads l, e) }
-
-    go : Step name (Bites t (Spelt t)) t → Step (newName used) (Bites t (Fresh t used)) t
-    go (took n w s) = tested n w s (among w used) refl
-    go (failed k s) = failed k (λ l. rw (s l))
+new-spells used =
+    bind-spells name-spells λ w.
+    bind-spells (demand-spells 3 (not (among w used))) λ _.
+    give-spells (append-nil w)
 
 module _ (p : NamePiece) (used : List (List ℕ)) (t : List ℕ) (is : p ≡ asName (newName used 0 t)) where
   pub new-name-wrong : (k : ℕ) → p ≡ N.Refused k → (l : ℕ) → newName used l t ≡ wrong k l
-  new-name-wrong = Steps.name-wrong (newName used) (Fresh t used) t p is (new-step used t)
+  new-name-wrong = refused name-refuses (inline-told (newName-built used) t) p is
 
   module _ (v n : ℕ) (told : p ≡ N.Name v n) where
-    new-taken : Took (newName used) (Bites t (Fresh t used)) t n (take n t) × (v ≡ packed (take n t))
-    new-taken = Steps.name-took (newName used) (Fresh t used) t p is (new-step used t) v n told
+    new-spelt : Spelt (newName used) t v n
+    new-spelt = name-took (newName-built used) (ensures-weaker (λ w h. h .0) (newName-new used)) (new-spells used) t p is v n told
 
     pub new-name-got : (l : ℕ) → newName used l t ≡ got (take n t) l (drop n t)
-    new-name-got = new-taken .0 .reads
+    new-name-got = new-spelt .reads
 
     pub new-name-number : v ≡ packed (take n t)
-    new-name-number = new-taken .1
-
-    pub new-name-packable : Packable (take n t)
-    new-name-packable = new-taken .0 .also .1 .0 .packable
+    new-name-number = new-spelt .number
 
     pub new-name-named : named v ≡ take n t
-    new-name-named = rw new-name-number (Packs.named-packed (take n t) new-name-packable)
-
-    pub new-name-good : goodName (take n t) ≡ true
-    new-name-good = new-taken .0 .also .1 .0 .good
-
-    pub new-name-unused : among (take n t) used ≡ false
-    new-name-unused = new-taken .0 .also .1 .1
+    new-name-named = rw new-name-number (Packs.named-packed (take n t) (new-spelt .packable))
 
     pub new-name-fits : n ≤ length t
-    new-name-fits = new-taken .0 .within
-
-    pub new-name-some : 1 ≤ n
-    new-name-some = new-taken .0 .also .1 .0 .some
-
-    pub new-name-few : n ≤ 12
-    new-name-few = new-taken .0 .also .1 .0 .few
+    new-name-fits = new-spelt .within
 
 -- NAMES OF A TABLE, from the answer p of known_name
--- a good name, at a place of the table
-abbrev Held : List ℕ → List (List ℕ) → ℕ → ℕ → Type 0
-Held t ns n i = Spelt t n × (i < length ns)
-
-known-step : (ns : List (List ℕ)) (t : List ℕ) → Step (known ns) (Held t ns) t
-unfolding known
-known-step ns t = go (name-step t)
-  where
-    tested : (n : ℕ) (w : List ℕ) → Took name (Bites t (Spelt t)) t n w → (o : Option ℕ) → find w ns ≡ o → Step (known ns) (Held t ns) t
-    tested n w s none e = failed 3 (λ l. rw (s .reads l, e))
-    tested n w s (some i) e = took n i record { within = s .within; also = (s .also .1, find-below w ns i e); reads = λ l. rw (s .reads l, e) }
-
-    go : Step name (Bites t (Spelt t)) t → Step (known ns) (Held t ns) t
-    go (took n w s) = tested n w s (find w ns) refl
-    go (failed k s) = failed k (λ l. rw (s l))
-
 module _ (p : Known) (ns : List (List ℕ)) (t : List ℕ) (is : p ≡ asKnown t (known ns 0 t)) where
   pub known-wrong : (k : ℕ) → p ≡ K.Refused k → (l : ℕ) → known ns l t ≡ wrong k l
-  known-wrong = Steps.known-wrong (known ns) (Held t ns) t p is (known-step ns t)
+  known-wrong = refused (known-refuses t) (inline-told (known-built ns) t) p is
 
   module _ (i n : ℕ) (told : p ≡ K.At i n) where
-    known-taken : Took (known ns) (Held t ns) t n i
-    known-taken = Steps.known-took (known ns) (Held t ns) t p is (known-step ns t) i n told
+    known-taken : Took (λ j. j < length ns) (known ns) t i n
+    known-taken = known-took (told-ensured (known-built ns) (known-below ns) t) p is i n told
 
     pub known-got : (l : ℕ) → known ns l t ≡ got i l (drop n t)
     known-got = known-taken .reads
 
     pub known-place : i < length ns
-    known-place = known-taken .also .1
+    known-place = known-taken .also
 
     pub known-fits : n ≤ length t
     known-fits = known-taken .within
 
-    pub known-some : 1 ≤ n
-    known-some = known-taken .also .0 .some
-
+    -- a name is short
     pub known-few : n ≤ 12
-    known-few = known-taken .also .0 .few
+    unfolding known
+    known-few = go (told-ensured name-built name-good t)
+      where
+        few : (m : ℕ) → m ≤ 12 → m ≤ length t → (o : Option ℕ) → p ≡ asKnown t (placed o 0 (drop m t)) → n ≤ 12
+        few m h g none q = let z : _≡_ {A = ℕ} 0 1 = cc in absurd (omega arith)
+        few m h g (some j) q = let z : n ≡ length t - length (drop m t) = cc in omega (arith, took t m g)
 
--- THE NAME THAT IS DUE, from the answer p of due_name
-due-name-step : (w : List ℕ) (t : List ℕ) → Step (dueName w) (λ n u. Spelt t n) t
-unfolding dueName
-due-name-step w t = go (name-step t)
-  where
-    tested : (n : ℕ) (u : List ℕ) → Took name (Bites t (Spelt t)) t n u → (b : Bool) → same u w ≡ b → Step (dueName w) (λ n u. Spelt t n) t
-    tested n u s true e = took n tt record { within = s .within; also = s .also .1; reads = λ l. rw (s .reads l, e) }
-    tested n u s false e = failed 3 (λ l. rw (s .reads l, e))
-
-    go : Step name (Bites t (Spelt t)) t → Step (dueName w) (λ n u. Spelt t n) t
-    go (took n u s) = tested n u s (same u w) refl
-    go (failed k s) = failed k (λ l. rw (s l))
-
-module _ (p : Bytes) (w : List ℕ) (t : List ℕ) (is : p ≡ asBytes t (dueName w 0 t)) where
-  pub due-name-wrong : (k : ℕ) → p ≡ B.Refused k → (l : ℕ) → dueName w l t ≡ wrong k l
-  due-name-wrong = Steps.bytes-wrong (dueName w) (λ n u. Spelt t n) t p is (due-name-step w t)
-
-  module _ (n : ℕ) (told : p ≡ B.Read n) where
-    due-taken : Took (dueName w) (λ n u. Spelt t n) t n tt
-    due-taken = Steps.bytes-took (dueName w) (λ n u. Spelt t n) t p is (due-name-step w t) n told
-
-    pub due-name-got : (l : ℕ) → dueName w l t ≡ got tt l (drop n t)
-    due-name-got = due-taken .reads
-
-    pub due-name-fits : n ≤ length t
-    due-name-fits = due-taken .within
-
-    pub due-name-some : 1 ≤ n
-    due-name-some = due-taken .also .some
-
-    pub due-name-few : n ≤ 12
-    due-name-few = due-taken .also .few
+        go : Told Good name t → n ≤ 12
+        go (Told.faulty k e) = let q : p ≡ K.Refused k = is ∙ rw (e 0) in let z : _≡_ {A = ℕ} 0 1 = cc in absurd (omega arith)
+        go (Told.found w m h g e) = few m (omega (arith, good-short w h, spelled-took name-spells 0 t w 0 m g (e 0))) g (find w ns) (is ∙ rw (e 0))
 
 -- FIXED TEXTS: what begins with a text is as long as it
 pub begins-fits : (k t : List ℕ) → begins k t ≡ true → length k ≤ length t
-begins-fits = Laws.begins-fits
+begins-fits = Told.begins-fits
 
 -- a text that may stand here
 pub stands-here : (k : List ℕ) (l : ℕ) (t : List ℕ) (b : Bool) → b ≡ begins k t → b ≡ true → stands k l t ≡ got true l (drop (length k) t)
@@ -230,41 +138,41 @@ stands-not k l t b e q = rw (← e, q)
 
 -- a text that is due, from the test
 pub due-ended : (n : ℕ) (k : List ℕ) (l : ℕ) (t : List ℕ) → length t ≡ 0 → due n k l t ≡ wrong 2 l
-unfolding due notEnded
-due-ended n k l [] h = refl
-due-ended n k l (x ∷ t) h = absurd (omega arith)
+unfolding due
+due-ended n k l t h = rw (notEnded-none l t h)
 
 pub due-here : (n : ℕ) (k : List ℕ) (l : ℕ) (t : List ℕ) → (length t ≡ 0 → ⊥) → (b : Bool) → b ≡ begins k t → b ≡ true → due n k l t ≡ got tt l (drop (length k) t)
-due-here n k l t h b e q = due-is l t k n h true (sym e ∙ q)
+unfolding due
+due-here n k l t h b e q = rw (notEnded-some l t h, stands-here k l t b e q)
 
 pub due-not : (n : ℕ) (k : List ℕ) (l : ℕ) (t : List ℕ) → (length t ≡ 0 → ⊥) → (b : Bool) → b ≡ begins k t → b ≡ false → due n k l t ≡ wrong n l
-due-not n k l t h b e q = due-is l t k n h false (sym e ∙ q)
+unfolding due
+due-not n k l t h b e q = rw (notEnded-some l t h, stands-not k l t b e q)
 
 -- a text that is due, from the answer p of due_text
-due-step : (n : ℕ) (k t : List ℕ) → Step (due n k) (λ m u. m ≡ length k) t
-due-step n k [] = failed 2 (λ l. due-ended n k l [] refl)
-due-step n k (x ∷ t) = go (begins k (x ∷ t)) refl
-  where
-    go : (b : Bool) → begins k (x ∷ t) ≡ b → Step (due n k) (λ m u. m ≡ length k) (x ∷ t)
-    go true e = took (length k) tt record { within = Laws.begins-fits k (x ∷ t) e; also = refl; reads = λ l. due-is l (x ∷ t) k n (λ h. omega arith) true e }
-    go false e = failed n (λ l. due-is l (x ∷ t) k n (λ h. omega arith) false e)
+told-due : (n : ℕ) (k t : List ℕ) → Told Any (due n k) t
+unfolding due
+told-due n k t =
+    told-bind Any Any notEnded _ t (inline-told notEnded-built t) λ _ u _.
+    told-bind Any Any (stands k) _ u (told-stands k u) λ b s _.
+    told-choose Any b _ _ s (λ _. told-give Any tt s tt) (λ _. Told.faulty n (λ l. refl))
 
 module _ (p : Bytes) (n : ℕ) (k t : List ℕ) (is : p ≡ asBytes t (due n k 0 t)) where
   pub due-wrong : (j : ℕ) → p ≡ B.Refused j → (l : ℕ) → due n k l t ≡ wrong j l
-  due-wrong = Steps.bytes-wrong (due n k) (λ m u. m ≡ length k) t p is (due-step n k t)
+  due-wrong = refused (bytes-refuses t) (told-due n k t) p is
 
   module _ (m : ℕ) (told : p ≡ B.Read m) where
-    text-taken : Took (due n k) (λ m u. m ≡ length k) t m tt
-    text-taken = Steps.bytes-took (due n k) (λ m u. m ≡ length k) t p is (due-step n k t) m told
+    text-taken : Took Any (due n k) t tt m
+    text-taken = bytes-took (told-due n k t) p is m told
 
     pub due-got : (l : ℕ) → due n k l t ≡ got tt l (drop m t)
     due-got = text-taken .reads
 
-    pub due-length : m ≡ length k
-    due-length = text-taken .also
-
     pub due-fits : m ≤ length t
     due-fits = text-taken .within
+
+    pub due-length : m ≡ length k
+    due-length = spelled-took (due-spells n k) 0 t tt 0 m due-fits (due-got 0)
 
 -- the end of a line, from the test
 module _ (n l : ℕ) (t : List ℕ) where
@@ -275,7 +183,7 @@ module _ (n l : ℕ) (t : List ℕ) where
   pub line-end-here : (b : Bool) → b ≡ begins (text "\n") t → b ≡ true → lineEnd n l t ≡ got tt (suc l) (drop 1 t)
   unfolding lineEnd
   line-end-here b e q =
-      let some : length t ≡ 0 → ⊥ = λ h. omega (arith, Laws.begins-fits (text "\n") t (sym e ∙ q)) in
+      let some : length t ≡ 0 → ⊥ = λ h. omega (arith, begins-fits (text "\n") t (sym e ∙ q)) in
       rw (due-here n (text "\n") l t some b e q)
 
   pub line-end-not : (length t ≡ 0 → ⊥) → (b : Bool) → b ≡ begins (text "\n") t → b ≡ false → lineEnd n l t ≡ wrong n l

@@ -1,7 +1,7 @@
 -- Runs of bytes, fixed texts and tables, in the form in which the functions' answers need them: the premises are what is known at a
 -- place, the conclusion is what is asked there.
 use mathlib.Core.Path.{_≡_, refl, ap, sym, _∙_}
-use mathlib.Core.Bool.{Bool, true, false, not, true≢false}
+use mathlib.Core.Bool.{Bool, true, false, not}
 use mathlib.Core.List.{List, [], _∷_}
 use Prim.Native.Nat.{ℕ, zero, suc, _+_, _-_, _<_, _≤_}
 use native.Mathlib.Omega.{arith}
@@ -11,28 +11,16 @@ use lib.Dec.{eqb}
 use lib.ListN.{length, drop, take, getD, drop-of-length-le, length-drop}
 use lib.Seq.{drop-cons, take-all, take-nil}
 use Rattle.meaning.specs.Text.{run, begins}
+use Rattle.theory.specs.Names.{run-more}
 use Rattle.text.specs.declared.Found.{Found}
 use Rattle.text.specs.declared.Found.the-variants as F
 use Rattle.text.specs.Answers.{foundIn, further}
 
 -- the longest run
 module _ (p : ℕ → Bool) where
-  pub run-cons : (x : ℕ) (s : List ℕ) → p x ≡ true → run p (x ∷ s) ≡ suc (run p s)
-  unfolding run
-  run-cons x s e = rw (e, run)
-
   pub run-halt : (x : ℕ) (s : List ℕ) → p x ≡ false → run p (x ∷ s) ≡ 0
   unfolding run
   run-halt x s e = rw (e, run)
-
-  pub run-le : (s : List ℕ) → run p s ≤ length s
-  unfolding run
-  run-le [] = omega arith
-  run-le (x ∷ s) = go (p x) refl (run-le s)
-    where
-      go : (b : Bool) → p x ≡ b → run p s ≤ length s → run p (x ∷ s) ≤ length (x ∷ s)
-      go true e h = omega (arith, run-cons x s e)
-      go false e h = omega (arith, run-halt x s e)
 
   -- each byte of the run passes the test
   pub run-passes : (s : List ℕ) (j : ℕ) → j < run p s → p (getD s j 0) ≡ true
@@ -42,7 +30,7 @@ module _ (p : ℕ → Bool) where
     where
       go : (b : Bool) → p x ≡ b → (j : ℕ) → j < run p (x ∷ s) → ((j : ℕ) → j < run p s → p (getD s j 0) ≡ true) → p (getD (x ∷ s) j 0) ≡ true
       go true e zero h ih = e
-      go true e (suc j) h ih = ih j (omega (arith, run-cons x s e))
+      go true e (suc j) h ih = ih j (omega (arith, run-more p x s e))
       go false e j h ih = absurd (omega (arith, run-halt x s e))
 
 -- a loop at the cursor i
@@ -50,7 +38,7 @@ module _ (p : ℕ → Bool) (s : List ℕ) (i : ℕ) where
   pub run-at-more : (b : Bool) → run p s ≡ i + run p (drop i s) → i < length s
       → b ≡ p (getD s i 0) → not b ≡ false → run p s ≡ i + 1 + run p (drop (i + 1) s)
   run-at-more b v h e t =
-      let m : run p (drop i s) ≡ suc (run p (drop (i + 1) s)) = rw (add-one, drop-cons s i 0) (run-cons p _ _ (sym e ∙ not-false b t)) in
+      let m : run p (drop i s) ≡ suc (run p (drop (i + 1) s)) = rw (add-one, drop-cons s i 0) (run-more p _ _ (sym e ∙ not-false b t)) in
       omega arith
 
   pub run-at-stop : (b : Bool) → run p s ≡ i + run p (drop i s) → i < length s
@@ -92,16 +80,6 @@ module _ (k s : List ℕ) (i : ℕ) (v : begins k s ≡ begins (drop i k) (drop 
   begins-at-end hk = sym (v ∙ rw (drop-of-length-le k hk))
 
 pub ruleset beginning = (begins-at-more, begins-at-stop, begins-at-short, begins-at-end)
-
-pub begins-fits : (k s : List ℕ) → begins k s ≡ true → length k ≤ length s
-unfolding begins
-begins-fits [] s e = omega arith
-begins-fits (y ∷ k) [] e = absurd (true≢false (sym e))
-begins-fits (y ∷ k) (x ∷ s) e = go (eqb x y) e (begins-fits k s)
-  where
-    go : (b : Bool) → elim b [ true ↦ begins k s | false ↦ false ] ≡ true → (begins k s ≡ true → length k ≤ length s) → length (y ∷ k) ≤ length (x ∷ s)
-    go true q h = omega (arith, h q)
-    go false q h = absurd (true≢false (sym q))
 
 -- the rest from a place on
 pub rest-some : (s : List ℕ) (a : ℕ) → take (length s - a) (drop a s) ≡ drop a s

@@ -15,12 +15,13 @@ use lib.ListN.{length, drop, take, getD, drop-of-length-le, length-drop}
 use lib.Seq.{drop-cons, length-take-le, getD-take}
 use Rattle.meaning.specs.Text.{run, same, among, find, later, any, isIn}
 use Rattle.meaning.specs.Name.{letter, digit, nameByte, reserved}
-use Rattle.theory.specs.Names.{same-self, same-equal}
+use Rattle.theory.specs.Names.{run-more, same-self, same-equal}
+use Rattle.theory.specs.Told.{run-fits}
 use Rattle.text.specs.declared.Found.{Found}
 use Rattle.text.specs.declared.Found.the-variants as F
 use Rattle.text.specs.Packed.{symbol, byteOf, packed, namedIn, named}
 use Rattle.text.specs.Answers.{foundIn, further}
-use Rattle.text.proofs.Laws.{run-cons, run-halt, run-le, run-passes}
+use Rattle.text.proofs.Laws.{run-halt, run-passes}
 
 -- every byte is a name byte
 abbrev pub Plain : List ℕ → Type 0
@@ -34,20 +35,6 @@ and-both false b e = absurd (false≢true e)
 or-either : (a b : Bool) → a || b ≡ true → (a ≡ true) ⊎ (b ≡ true)
 or-either true b e = inl refl
 or-either false b e = inr e
-
--- a name byte is a letter or a digit
-data Kind (x : ℕ) : Type 0 where
-  isLetter : 97 ≤ x → x ≤ 122 → Kind x
-  isDigit : 48 ≤ x → x ≤ 57 → Kind x
-
-kind : (x : ℕ) → nameByte x ≡ true → Kind x
-kind x e = ⊎-elim small number (or-either (letter x) (digit x) e)
-  where
-    small : letter x ≡ true → Kind x
-    small h = let b = and-both (leb 97 x) (leb x 122) h in isLetter (leb-true 97 x (b .0)) (leb-true x 122 (b .1))
-
-    number : digit x ≡ true → Kind x
-    number h = let b = and-both (leb 48 x) (leb x 57) h in isDigit (leb-true 48 x (b .0)) (leb-true x 57 (b .1))
 
 symbol-letter : (x : ℕ) → 97 ≤ x → symbol x ≡ x - 96
 unfolding symbol
@@ -76,28 +63,31 @@ byteOf-above d h =
     let e : 27 ≤ d = omega arith in
     rw (le-leb 1 d a, lt-leb d 26 b, le-leb 27 d e, lt-leb d 36 h)
 
-pub symbol-some : (x : ℕ) → nameByte x ≡ true → 1 ≤ symbol x
-symbol-some x e = go (kind x e)
-  where
-    go : Kind x → 1 ≤ symbol x
-    go (isLetter h g) = omega (arith, symbol-letter x h)
-    go (isDigit h g) = omega (arith, symbol-digit x (omega arith))
+-- a name byte: its symbol, and back
+record Byte (x : ℕ) : Type 0 where
+  from : 21 ≤ x
+  some : 1 ≤ symbol x
+  small : symbol x < 38
+  back : byteOf (symbol x) ≡ x
 
-pub symbol-small : (x : ℕ) → nameByte x ≡ true → symbol x < 38
-symbol-small x e = go (kind x e)
+byte : (x : ℕ) → nameByte x ≡ true → Byte x
+byte x e = ⊎-elim letters digits (or-either (letter x) (digit x) e)
   where
-    go : Kind x → symbol x < 38
-    go (isLetter h g) = omega (arith, symbol-letter x h)
-    go (isDigit h g) = omega (arith, symbol-digit x (omega arith))
+    letters : letter x ≡ true → Byte x
+    letters h =
+        let (a, b) = and-both (leb 97 x) (leb x 122) h in
+        let l = leb-true 97 x a in
+        let g = leb-true x 122 b in
+        let s = symbol-letter x l in
+        record { from = omega arith; some = omega arith; small = omega arith; back = rw s (byteOf-low (x - 96) (omega arith) (omega arith) ∙ omega arith) }
 
-byte-symbol : (x : ℕ) → nameByte x ≡ true → byteOf (symbol x) ≡ x
-byte-symbol x e = go (kind x e)
-  where
-    go : Kind x → byteOf (symbol x) ≡ x
-    go (isLetter h g) = rw (symbol-letter x h) (byteOf-low (x - 96) (omega arith) (omega arith) ∙ omega arith)
-    go (isDigit h g) =
-        let l : x < 97 = omega arith in
-        rw (symbol-digit x l) (byteOf-high (x - 21) (omega arith) (omega arith) ∙ omega arith)
+    digits : digit x ≡ true → Byte x
+    digits h =
+        let (a, b) = and-both (leb 48 x) (leb x 57) h in
+        let l = leb-true 48 x a in
+        let g = leb-true x 57 b in
+        let s = symbol-digit x (omega arith) in
+        record { from = omega arith; some = omega arith; small = omega arith; back = rw s (byteOf-high (x - 21) (omega arith) (omega arith) ∙ omega arith) }
 
 symbol-byte : (d : ℕ) → nameByte (byteOf d) ≡ true → symbol (byteOf d) ≡ d
 unfolding byteOf
@@ -111,17 +101,13 @@ symbol-byte (suc n) e = go (decLt (suc n) 27) (decLt (suc n) 37)
 
 -- what the code's two ways of a symbol give
 pub symbol-high : (x r : ℕ) → nameByte x ≡ true → 97 ≤ x → r ≡ x - 96 → (r ≡ symbol x) × (r < 38)
-symbol-high x r e h z = (omega (arith, symbol-letter x h), omega (arith, symbol-letter x h, symbol-small x e))
+symbol-high x r e h z = (omega (arith, symbol-letter x h), omega (arith, symbol-letter x h, byte x e .small))
 
 pub symbol-low : (x r : ℕ) → nameByte x ≡ true → x < 97 → r ≡ x - 21 → (r ≡ symbol x) × (r < 38)
-symbol-low x r e h z = (omega (arith, symbol-digit x h), omega (arith, symbol-digit x h, symbol-small x e))
+symbol-low x r e h z = (omega (arith, symbol-digit x h), omega (arith, symbol-digit x h, byte x e .small))
 
 pub symbol-from : (x : ℕ) → nameByte x ≡ true → 21 ≤ x
-symbol-from x e = go (kind x e)
-  where
-    go : Kind x → 21 ≤ x
-    go (isLetter h g) = omega arith
-    go (isDigit h g) = omega arith
+symbol-from x e = byte x e .from
 
 -- powers of 38 bound a name's number
 unfoldable power : ℕ → ℕ
@@ -137,7 +123,7 @@ packed-bound : (k : ℕ) (w : List ℕ) → length w ≤ k → Plain w → suc (
 unfolding packed power
 packed-bound k [] h p = power-some k
 packed-bound zero (x ∷ w) h p = absurd (omega arith)
-packed-bound (suc k) (x ∷ w) h p = omega (arith, packed-bound k w (omega arith) (p .1), symbol-small x (p .0))
+packed-bound (suc k) (x ∷ w) h p = omega (arith, packed-bound k w (omega arith) (p .1), byte x (p .0) .small)
 
 packed-small : (w : List ℕ) → length w ≤ 11 → Plain w → packed w < 238572050223552512
 unfolding power
@@ -165,9 +151,9 @@ unfolding packed
 named-back k [] h p = named-none k
 named-back zero (x ∷ w) h p = absurd (omega arith)
 named-back (suc k) (x ∷ w) h p =
-    let small = symbol-small x (p .0) in
-    let some : symbol x + 38 * packed w ≡ 0 → ⊥ = λ z. omega (arith, symbol-some x (p .0)) in
-    rw (named-step k (symbol x + 38 * packed w) some, digits-mod (symbol x) (packed w) small, digits-div (symbol x) (packed w) small, byte-symbol x (p .0), named-back k w (omega arith) (p .1))
+    let small = byte x (p .0) .small in
+    let some : symbol x + 38 * packed w ≡ 0 → ⊥ = λ z. omega (arith, byte x (p .0) .some) in
+    rw (named-step k (symbol x + 38 * packed w) some, digits-mod (symbol x) (packed w) small, digits-div (symbol x) (packed w) small, byte x (p .0) .back, named-back k w (omega arith) (p .1))
 
 -- and no other number does
 named-only : (w : List ℕ) (k v : ℕ) → namedIn (suc k) v ≡ w → length w ≤ k → Plain w → v ≡ packed w
@@ -246,7 +232,7 @@ plain-run [] = tt
 plain-run (x ∷ s) = go (nameByte x) refl (plain-run s)
   where
     go : (b : Bool) → nameByte x ≡ b → Plain (take (run nameByte s) s) → Plain (take (run nameByte (x ∷ s)) (x ∷ s))
-    go true e p = rw (run-cons nameByte x s e) (e, p)
+    go true e p = rw (run-more nameByte x s e) (e, p)
     go false e p = rw (run-halt nameByte x s e) tt
 
 plain-drop : (i : ℕ) (w : List ℕ) → Plain w → Plain (drop i w)
@@ -255,7 +241,7 @@ plain-drop (suc i) [] p = p
 plain-drop (suc i) (x ∷ w) p = plain-drop i w (p .1)
 
 pub length-run : (s : List ℕ) (n : ℕ) → n ≡ run nameByte s → length (take n s) ≡ n
-length-run s n is = length-take-le n s (omega (arith, run-le nameByte s))
+length-run s n is = length-take-le n s (omega (arith, run-fits nameByte s))
 
 module _ (s : List ℕ) (n : ℕ) (is : n ≡ run nameByte s) where
   pub pack-start : 0 ≡ packed (drop n (take n s))
@@ -265,7 +251,7 @@ module _ (s : List ℕ) (n : ℕ) (is : n ≡ run nameByte s) where
       sym (rw (drop-of-length-le (take n s) l))
 
   pub pack-within : (i : ℕ) → 0 < i → i ≤ n → (j : ℕ) → j ≡ i - 1 → j < length s
-  pack-within i h g j z = omega (arith, run-le nameByte s)
+  pack-within i h g j z = omega (arith, run-fits nameByte s)
 
   pub pack-byte : (i : ℕ) → 0 < i → i ≤ n → (j : ℕ) → j ≡ i - 1 → nameByte (getD s j 0) ≡ true
   pack-byte i h g j z = run-passes nameByte s j (omega arith)

@@ -181,7 +181,7 @@ entry-proper = ensures-weaker (λ e h. record { shown = h .0; short = h .1 }) (e
 -- THE SCALE
 
 -- digits that have a value stand for one in the range
-digits-most : (ds : List ℕ) (v : ℕ) → run digit ds ≡ length ds → digits ds ≡ some v → v ≤ middle
+pub digits-most : (ds : List ℕ) (v : ℕ) → run digit ds ≡ length ds → digits ds ≡ some v → v ≤ middle
 unfolding digits
 digits-most [] v f e = absurd (Option·none-ne-some v e)
 digits-most (d ∷ []) v f e = let i = Option·some-injective (d - 48) v e in omega (arith, i, digit-first d [] f .1)

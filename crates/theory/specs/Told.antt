@@ -6,7 +6,7 @@ use mathlib.Core.List.{List, [], _∷_, _++_}
 use native.Mathlib.Omega.{arith}
 use lib.ListN.{length, take, drop, length-drop, length-append}
 use lib.Dec.{eqb}
-use lib.Seq.{drop-drop}
+use lib.Seq.{drop-drop, take-at}
 use Rattle.meaning.specs.Text.{begins, run}
 use Rattle.meaning.specs.Reading.{Got, got, wrong, Reader, after, _>>=_, give, refuse, choose, notEnded, stands, Word, oneOf, longest, paperEnd}
 use Rattle.theory.specs.Built.{BuiltIn, Inline, Built, give-built, refuse-built, choose-built, bind-built, notEnded-built, paperEnd-built, stands-built, longest-built, lineEnd-built}
@@ -43,7 +43,7 @@ module _ {A B : Type 0} (P : A → Type 0) (Q : B → Type 0) where
       go (Told.found b i q j d) = Told.found b (n + i) q (let z : i ≤ length s - n = rw (← length-drop n s) j in omega arith) (λ l. rw (e l) (d l ∙ rw (drop-drop i n s)))
 
 -- the fixed text and the run
-begins-fits : (w s : List ℕ) → begins w s ≡ true → length w ≤ length s
+pub begins-fits : (w s : List ℕ) → begins w s ≡ true → length w ≤ length s
 unfolding begins
 begins-fits [] s e = omega arith
 begins-fits (y ∷ w) [] e = absurd (false≢true e)
@@ -61,7 +61,7 @@ told-stands w s = go (begins w s) refl
     go true e = Told.found true (length w) tt (begins-fits w s e) (λ l. rw e)
     go false e = Told.found false 0 tt (omega arith) (λ l. rw e)
 
-run-fits : (p : ℕ → Bool) (s : List ℕ) → run p s ≤ length s
+pub run-fits : (p : ℕ → Bool) (s : List ℕ) → run p s ≤ length s
 unfolding run
 run-fits p [] = omega arith
 run-fits p (x ∷ s) = go (p x) (run-fits p s)
@@ -114,6 +114,11 @@ told-weaker h (Told.faulty k e) = Told.faulty k e
 -- as many bytes as the text of the value has
 pub spelled-took : {A : Type 0} {r : Reader A} {w : A → List ℕ} → Spells [] r w → (l : ℕ) (s : List ℕ) (a : A) (k n : ℕ) → n ≤ length s → r l s ≡ got a k (drop n s) → n ≡ length (w a)
 spelled-took {w = w} h l s a k n m e = let z = ap length (h .reads l s .of a k (drop n s) e) in omega (arith, length-append (w a) (drop n s), length-drop n s)
+
+-- and it is that text
+pub spelled-text : {A : Type 0} {r : Reader A} {w : A → List ℕ} → Spells [] r w → (l : ℕ) (s : List ℕ) (a : A) (k n : ℕ) → n ≤ length s → r l s ≡ got a k (drop n s) → w a ≡ take n s
+spelled-text {w = w} h l s a k n m e =
+    sym (ap (take n) (h .reads l s .of a k (drop n s) e) ∙ take-at (w a) (drop n s) n (sym (spelled-took h l s a k n m e)))
 
 pub told-oneOf : {A : Type 0} (n : ℕ) (ws : List (Word A)) (s : List ℕ) → Told Any (oneOf n ws) s
 unfolding oneOf
