@@ -1,4 +1,4 @@
-/* Reambodkin's two requests over the bytes of three papers, for C. Link target/staticlib/libexports.a (x86-64).
+/* Reambodkin's two requests over the bytes of three papers, and its desk program's output, for C. Link target/staticlib/libexports.a (x86-64).
  *
  * Sheet, card and event are bytes with their lengths; no byte and no length is forbidden. What can't be taken is refused
  * by a number, the paper and the line.
@@ -51,6 +51,11 @@ uint64_t reambodkin_step(const uint8_t *sheet, size_t sheet_len, const uint8_t *
 uint64_t reambodkin_outlook(const uint8_t *sheet, size_t sheet_len, const uint8_t *card, size_t card_len,
                             const uint8_t *event, size_t event_len, uint32_t *out, size_t out_len,
                             uint64_t *reply, size_t reply_len);
+
+/* What the desk program prints for an input, at the start of `out`; returns how long it is. What is behind is
+ * untouched. Where out_len is below REAMBODKIN_DESK_OUT nothing is touched and 0 is returned. */
+#define REAMBODKIN_DESK_OUT 81920
+size_t reambodkin_desk(const uint8_t *input, size_t input_len, uint8_t *out, size_t out_len);
 
 #ifdef __cplusplus
 }

@@ -81,7 +81,8 @@ pub fn outlook_into(sheet: &[u8], card: &[u8], event: &[u8], out: &mut [u32], re
     }
 }
 
-/// The length of the desk's output, which stands at the start of `out`.
+/// The length of the desk's output, which stands at the start of `out`; 0, and nothing touched, where `out` has fewer
+/// than 81,920 bytes.
 #[cfg(feature = "desk")]
 pub fn desk(input: &[u8], out: &mut [u8]) -> usize {
     // SAFETY: as above.

@@ -5,8 +5,9 @@ use mathlib.Core.List.{List, _∷_, [], _++_}
 use native.Mathlib.Omega.{arith}
 use borrow.Author.Tests.{le-leb, lt-leb}
 use lib.ListN.{length, drop, set}
+use Rattle.sets.specs.Front.{Front}
 use Rattle.case.specs.declared.Reply.{Reply}
-use Rattle.exports.specs.Exports.{numbers, withPlaces, numberTold, placesTold}
+use Rattle.exports.specs.Exports.{numbers, withPlaces, numberTold, placesTold, withRoom}
 
 -- a place among five
 pub one-of-five : (n : ℕ) (places : List ℕ) → 5 ≤ length places → n < 5 → n < length places
@@ -59,3 +60,23 @@ module _ (places : List ℕ) (enough : 5 ≤ length places) where
   told-space x lent now e = e ∙ sym (with-enough x lent)
 
 pub ruleset telling = (few-number, few-places, few-space, told-number, told-places, told-space)
+
+-- THE DESK
+
+-- too little room, and all is as it was
+module _ (lent : List ℕ) (few : length lent < 81920) where
+  pub no-room : {A : Type 0} (asked otherwise : A) → otherwise ≡ withRoom lent asked otherwise
+  unfolding withRoom
+  no-room asked otherwise = sym (rw (lt-leb 81920 (length lent) few))
+
+-- room for all: what was printed, and how long it is
+module _ (lent : List ℕ) (enough : 81920 ≤ length lent) (l : List ℕ) (n : ℕ) (now : List ℕ) (printed : Front l n lent now) where
+  pub room-count : n ≡ withRoom lent (length l) 0
+  unfolding withRoom
+  room-count = printed .count ∙ sym (rw (le-leb 81920 (length lent) enough))
+
+  pub room-space : now ≡ withRoom lent (l ++ drop (length l) lent) lent
+  unfolding withRoom
+  room-space = printed .list ∙ ap (λ k. l ++ drop k lent) (printed .count) ∙ sym (rw (le-leb 81920 (length lent) enough))
+
+pub ruleset printing = (no-room, room-count, room-space)

@@ -4,8 +4,9 @@ ghost use mathlib.Core.List.{_++_};
 ghost use Prim.Native.Nat.{_≤_};
 ghost use lib.ListN.{length, drop};
 ghost use Rattle.meaning.specs.Doors.{stepReply, stepSpace, outlookReply, outlookSpace};
+ghost use Rattle.meaning.specs.Desk.{deskOutput};
 ghost use Rattle.case.specs.Answers.{asReply};
-ghost use Rattle.exports.specs.Exports.{numbers, withPlaces, numberTold, placesTold};
+ghost use Rattle.exports.specs.Exports.{numbers, withPlaces, numberTold, placesTold, withRoom};
 use case::Reply;
 
 // Puts the numbers of a reply into the first five places, and tells the first.
@@ -61,4 +62,16 @@ pub extern "C" fn reambodkin_outlook(
     }
     let told = reambodkin::outlook(sheet, card, event, out);
     tell(told, reply)
+}
+
+// What the desk program prints for its input, at the start of `out`, and how long it is. Where `out` has fewer than 81,920 bytes nothing is touched and 0 is returned.
+#[no_mangle]
+pub extern "C" fn reambodkin_desk(input: &[u8], out: &mut [u8]) -> usize
+    ensures answer { λ r. ⌜ r ≡ withRoom (now (out .entry)) (length (deskOutput (now (input .entry)))) 0 ⌝ }
+    ensures space { λ r. ⌜ now (out .exit) ≡ withRoom (now (out .entry)) (deskOutput (now (input .entry)) ++ drop (length (deskOutput (now (input .entry)))) (now (out .entry))) (now (out .entry)) ⌝ }
+{
+    if out.len() < 81920 {
+        return 0;
+    }
+    output::desk_output(input, out)
 }

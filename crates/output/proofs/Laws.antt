@@ -1,0 +1,316 @@
+-- What the desk program prints for a case and for the whole input, return by return: what is known there, and the answer that is asked.
+use Prim.Native.Nat.{ℕ, zero, suc, _+_, _-_, _*_, _/_, _%_, _^_, _<_, _≤_}
+use mathlib.Core.Path.{_≡_, refl, sym, _∙_, ap, ap₂, subst}
+use mathlib.Core.Bool.{Bool, true, false, cond}
+use mathlib.Core.List.{List, [], _∷_, _++_, map}
+use native.Mathlib.Omega.{arith}
+use mir.Val.{Fits}
+use mir.Syntax.{w64}
+use borrow.Author.Tests.{eq-eqb, ne-eqb, le-leb, lt-ltb, le-ltb}
+use lib.Dec.{leb, ltb}
+use lib.ListN.{length, length-append, length-map, take, drop}
+use lib.Seq.{take-at}
+use Rattle.meaning.specs.Text.{text, from, joined}
+use Rattle.meaning.specs.Refusal.{Answer, taken, refused, onTaken, MANY, ROOM}
+use Rattle.meaning.specs.Sheet.{Sheet, Event, Status, eventNames, statusNames, statuses, withRules}
+use Rattle.meaning.specs.Step.{moment, putIn, startedFrom, started, pattern}
+use Rattle.meaning.specs.Outlook as Outlook
+use Rattle.meaning.specs.Write.{line, cardText}
+use Rattle.meaning.specs.Doors.{Case, readCase, next, outlook, fitting, replied, written}
+use Rattle.meaning.specs.Desk.{paperLength, firstPaper, afterPaper, refusalText, startLines, outlookLines, printed, deskOutput}
+use Rattle.theory.specs.Formed.{Well}
+use Rattle.theory.specs.Papers.{Papers, case-holds}
+use Rattle.theory.specs.Cases.{at, after, case-meets}
+use Rattle.theory.specs.Accepted.{card-length, case-entries}
+use Rattle.tables.specs.declared.Heads.{Heads}
+use Rattle.tables.specs.Heads.{Sized, allNames, statusAt, headsOf, asHeads}
+use Rattle.tables.proofs.Padded.{names-length}
+use Rattle.event.specs.Answers.{asHappening}
+use Rattle.space.specs.Answers.{Wrote}
+use Rattle.space.proofs.Laws.{wrote-long, wrote-room, wrote-both}
+use Rattle.write.specs.Answers.{spaceWith}
+use Rattle.sets.specs.Front.{Front}
+use Rattle.combos.specs.Numbered.{size}
+use Rattle.accepted.specs.declared.Accepted.{Accepted}
+use Rattle.accepted.proofs.Callers.{heads-bare}
+use Rattle.case.specs.declared.CaseRead.{CaseRead}
+use Rattle.case.specs.declared.Reply.{Reply}
+use Rattle.case.specs.Answers.{asReply, refusedReply, takenCase, asCase}
+use Rattle.case.proofs.Callers.{case-read, case-wrong, case-short}
+use Rattle.next.specs.Next.{textAfter, tasksAfter, replyAfter}
+use Rattle.next.proofs.Callers.{text-after, tasks-after}
+use Rattle.outlook.specs.Patterns.{Ready, triedOf, listOf, replyFor, spaceFor}
+use Rattle.outlook.proofs.Callers.{ready, reply-outlook, space-outlook}
+use Rattle.print.specs.Lines.{startText, patternText, manyText}
+use Rattle.print.proofs.Callers.{refusal-few}
+use Rattle.split.proofs.Callers.{paper-fits}
+use Rattle.output.specs.Texts.{startsText, listedText, caseText, Within}
+use Rattle.output.proofs.Lines.{starts-few, listed-few, part-long}
+
+-- TASKS
+
+started-long : (sh : Sheet) (before after : List Bool) (x : ℕ) (ss : List Status) → length (startedFrom sh before after x ss) ≡ length ss
+unfolding startedFrom
+started-long sh before after x [] = refl
+started-long sh before after x (s ∷ ss) = ap suc (started-long sh before after (suc x) ss)
+
+-- the lines of the stages from place x on, told by the bits of a pattern
+starts-are : (h : Heads) (n x : ℕ) (bs : List Bool) → length bs ≡ n → startsText (h .names) (h .fields + h .events + x) n (pattern bs) ≡ startLines (map (statusAt h) (from x n)) bs
+unfolding startsText startText pattern startLines from
+starts-are h zero x [] l = refl
+starts-are h zero x (b ∷ bs) l = absurd (omega arith)
+starts-are h (suc n) x [] l = absurd (omega arith)
+starts-are h (suc n) x (true ∷ bs) l =
+    let odd : (1 + 2 * pattern bs) % 2 ≡ 1 = omega arith in
+    let half : (1 + 2 * pattern bs) / 2 ≡ pattern bs = omega arith in
+    let z : suc (h .fields + h .events + x) ≡ h .fields + h .events + suc x = omega arith in
+    rw (eq-eqb ((1 + 2 * pattern bs) % 2) 1 odd, half, z) (ap (λ t. line (text "start") (statusAt h x .name) ++ t) (starts-are h n (suc x) bs (omega arith)))
+starts-are h (suc n) x (false ∷ bs) l =
+    let even : (2 * pattern bs) % 2 ≡ 1 → ⊥ = λ y. omega arith in
+    let half : (2 * pattern bs) / 2 ≡ pattern bs = omega arith in
+    let z : suc (h .fields + h .events + x) ≡ h .fields + h .events + suc x = omega arith in
+    rw (ne-eqb ((2 * pattern bs) % 2) 1 even, half, z) (starts-are h n (suc x) bs (omega arith))
+
+-- those of a sheet
+stages-are : (sh : Sheet) → Well sh → map (statusAt (asHeads sh)) (from 0 (asHeads sh .stages)) ≡ sh .stages
+unfolding headsOf withRules
+stages-are sh w = ap (λ (sh : Sheet). sh .stages) (heads-bare sh w)
+
+sheet-starts : (sh : Sheet) → Well sh → (bs : List Bool) → length bs ≡ length (sh .stages)
+    → startsText (asHeads sh .names) (asHeads sh .fields + asHeads sh .events) (asHeads sh .stages) (pattern bs) ≡ startLines (sh .stages) bs
+unfolding asHeads
+sheet-starts sh w bs l =
+    let z : asHeads sh .fields + asHeads sh .events + 0 ≡ asHeads sh .fields + asHeads sh .events = omega arith in
+    ap (λ i. startsText (asHeads sh .names) i (asHeads sh .stages) (pattern bs)) (sym z) ∙ starts-are (asHeads sh) (length (sh .stages)) 0 bs l ∙ ap (λ ss. startLines ss bs) (stages-are sh w)
+
+-- THE OUTLOOK
+
+-- what the outlook answers, asked with room for the very list that the tables give
+module _ (l : List ℕ) where
+  abbrev said : Answer (List ℕ) → Reply
+  said x = asReply (replied (λ (l : List ℕ). length l) (λ l. 0) (onTaken x (λ x. fitting (λ l. l) (length l) x)))
+
+  abbrev kept : Answer (List ℕ) → List ℕ
+  kept x = written (λ (l : List ℕ). l) l (onTaken x (λ x. fitting (λ l. l) (length l) x))
+
+  answer-is : (many fits : Bool) (x : Answer (List ℕ)) → fits ≡ true → ((n i j : ℕ) → x ≡ refused n i j → n ≡ 10)
+      → cond many (refusedReply 10 0 0) (cond fits (record { number = 0; paper = 0; line = 0; count = length l; tasks = 0 }) (refusedReply 9 0 0)) ≡ said x
+      → cond many l (cond fits (l ++ drop (length l) l) l) ≡ kept x
+      → cond many manyText (joined patternText l) ≡ outlookLines x
+  unfolding outlookLines fitting replied written
+  answer-is many false x t h p r = let z : _≡_ {A = ℕ} 0 1 = cc in absurd (omega arith)
+  answer-is true true (refused n i j) t h p r = refl
+  answer-is true true (taken x) t h p r = absurd (go (leb (length x) (length l)) p)
+    where
+      go : (b : Bool) → refusedReply 10 0 0 ≡ asReply (replied (λ (l : List ℕ). length l) (λ l. 0) (cond b (taken x) (refused ROOM 0 0))) → ⊥
+      go true p = let z : _≡_ {A = ℕ} 10 0 = ap (λ (r : Reply). r .number) p in omega arith
+      go false p = let z : _≡_ {A = ℕ} 10 9 = ap (λ (r : Reply). r .number) p in omega arith
+  answer-is false true (refused n i j) t h p r = let z : 0 ≡ n = ap (λ (r : Reply). r .number) p in let y = h n i j refl in absurd (omega arith)
+  answer-is false true (taken x) t h p r = go (leb (length x) (length l)) p r
+    where
+      go : (b : Bool) → record { number = 0; paper = 0; line = 0; count = length l; tasks = 0 } ≡ asReply (replied (λ (l : List ℕ). length l) (λ l. 0) (cond b (taken x) (refused ROOM 0 0)))
+          → l ++ drop (length l) l ≡ written (λ (l : List ℕ). l) l (cond b (taken x) (refused ROOM 0 0)) → joined patternText l ≡ joined patternText x
+      go true p r =
+          let n : length l ≡ length x = ap (λ (r : Reply). r .count) p in
+          ap (joined patternText) (sym (take-at l (drop (length l) l) (length x) n) ∙ ap (take (length x)) r ∙ take-at x (drop (length x) l) (length x) refl)
+      go false p r = let z : _≡_ {A = ℕ} 0 9 = ap (λ (r : Reply). r .number) p in absurd (omega arith)
+
+-- A CASE
+
+module _ (s c e : List ℕ) (k : Case) (q : readCase s c e ≡ taken k) where
+  papers : Papers k
+  papers = case-holds s c e k q
+
+  next-few : length (next k .card) ≤ 969
+  unfolding next moment
+  next-few =
+      let (many, proper) = case-entries k papers in
+      card-length (k .sheet) (papers .well) (putIn (k .happening .puts) (k .card .entries)) (after k) many (case-meets k papers .long ∙ papers .marked) proper
+
+  tasks-long : length (next k .tasks) ≡ length (k .sheet .stages)
+  unfolding next started
+  tasks-long = started-long (k .sheet) (k .card .statuses) (after k) 0 (k .sheet .stages)
+
+  -- an outlook is refused only as MANY
+  refused-many : (n i j : ℕ) → outlook k ≡ refused n i j → n ≡ 10
+  unfolding outlook
+  refused-many n i j f = go (Outlook.many (k .sheet) (at k)) f
+    where
+      number : Answer (List ℕ) → ℕ
+      number (taken l) = 10
+      number (refused n i j) = n
+
+      go : (b : Bool) → _≡_ {A = Answer (List ℕ)} (elim b [ true ↦ refused MANY 0 0 | false ↦ taken (Outlook.patterns (k .sheet) (k .order) (at k)) ]) (refused n i j) → n ≡ 10
+      go true f = sym (ap number f)
+      go false f = sym (ap number f)
+
+  abbrev read : CaseRead
+  read = takenCase k
+
+  listed-is : listedText (read .sheet) (k .happening .event) (read .values) (read .card .marks) ≡ outlookLines (outlook k)
+  unfolding listedText replyFor spaceFor
+  listed-is =
+      let l = listOf (read .sheet) (k .happening .event) (read .values) (read .card .marks) in
+      answer-is l (ltb 4096 (size (triedOf (read .sheet) (k .happening .event) (read .values) (read .card .marks)))) (leb (length l) (length l)) (outlook k) (le-leb (length l) (length l) (omega arith)) refused-many
+      (reply-outlook s c e k q (length l)) (space-outlook s c e k q l)
+
+  printed-is : printed (taken k) ≡ caseText read c e
+  unfolding printed caseText asHappening
+  printed-is = sym (ap₂ _++_ (ap₂ _++_ (text-after s c e k q) (ap (startsText (asHeads (k .sheet) .names) (asHeads (k .sheet) .fields + asHeads (k .sheet) .events) (asHeads (k .sheet) .stages)) (tasks-after s c e k q) ∙ sheet-starts (k .sheet) (papers .well) (next k .tasks) tasks-long)) listed-is)
+
+  names-few : length (allNames (k .sheet)) ≤ 64
+  unfolding allNames eventNames statusNames
+  names-few =
+      let sh = k .sheet in
+      omega (
+        arith,
+        length-append (sh .fields ++ eventNames (sh .events)) (statusNames (statuses sh)),
+        length-append (sh .fields) (eventNames (sh .events)),
+        length-map (sh .events) (λ (e : Event). e .name),
+        length-map (statuses sh) (λ (s : Status). s .name),
+        papers .well .fields-few,
+        papers .well .events-few,
+        papers .well .statuses-few,
+      )
+
+  names-held : length (asHeads (k .sheet) .names) ≡ 64
+  unfolding asHeads
+  names-held = names-length 64 (allNames (k .sheet)) names-few
+
+  within : Within read c e
+  within = record { names-held = names-held; ready = ready s c e k q; card-few = case-short s c e k q .0; event-few = case-short s c e k q .1; next-few = rw (text-after s c e k q) next-few }
+
+-- A CASE THAT WAS READ
+
+module _ (read : CaseRead) (c e : List ℕ) (w : Within read c e) where
+  abbrev heads : Heads
+  heads = read .sheet .heads
+
+  abbrev starts : List ℕ
+  starts = startsText (heads .names) (heads .fields + heads .events) (heads .stages) (tasksAfter read)
+
+  abbrev listed : List ℕ
+  listed = listedText (read .sheet) (read .happening .event) (read .values) (read .card .marks)
+
+  pub read-sized : Sized (read .sheet .heads)
+  read-sized = w .ready .sized
+
+  pub read-ready : Ready (read .sheet) (read .values)
+  read-ready = w .ready
+
+  pub read-card : length c ≤ 1024
+  read-card = w .card-few
+
+  pub read-event : length e ≤ 512
+  read-event = w .event-few
+
+  pub read-sum : Fits w64 (read .sheet .heads .fields + read .sheet .heads .events)
+  read-sum = omega (arith, w .ready .sized .few-fields, w .ready .sized .few-events)
+
+  pub read-held : 64 ≡ length (read .sheet .heads .names)
+  read-held = sym (w .names-held)
+
+  pub read-names : read .sheet .heads .fields + read .sheet .heads .events + read .sheet .heads .stages ≤ length (read .sheet .heads .names)
+  read-names = omega (arith, w .names-held, w .ready .sized .few-fields, w .ready .sized .few-events, w .ready .sized .few-statuses)
+
+  few : length starts ≤ 640
+  few = omega (arith, starts-few (heads .names) (heads .fields + heads .events) (heads .stages) (tasksAfter read), w .ready .sized .few-statuses)
+
+  module _ (o : List ℕ) (room : 81920 ≤ length o) where
+    both-fit : 0 + length (textAfter read c e ++ starts) ≤ length o
+    both-fit = omega (arith, few, w .next-few, length-append (textAfter read c e) starts)
+
+    all-fit : 0 + length (textAfter read c e ++ starts ++ listed) ≤ length o
+    all-fit = omega (arith, both-fit, few, w .next-few, length-append (textAfter read c e) starts, length-append (textAfter read c e ++ starts) listed, listed-few (read .sheet) (read .happening .event) (read .values) (read .card .marks))
+
+    module _ (o1 : List ℕ) (r : Reply) (answer : r ≡ replyAfter read c e (length o)) (space : o1 ≡ spaceWith o (textAfter read c e)) where
+      fits : leb (length (textAfter read c e)) (length o) ≡ true
+      fits = le-leb (length (textAfter read c e)) (length o) (omega (arith, w .next-few))
+
+      reply-is : r ≡ record { number = 0; paper = 0; line = 0; count = length (textAfter read c e); tasks = tasksAfter read }
+      unfolding replyAfter
+      reply-is = answer ∙ rw fits
+
+      carded : Wrote 0 (textAfter read c e) o o1 (r .count)
+      unfolding spaceWith
+      carded =
+          let z : 0 + length (textAfter read c e) ≡ length (textAfter read c e) = omega arith in
+          record { space = rw z (space ∙ rw fits); next = rw z (ap (λ (r : Reply). r .count) reply-is) }
+
+      abbrev told-starts : List ℕ
+      told-starts = startsText (read .sheet .heads .names) (read .sheet .heads .fields + read .sheet .heads .events) (read .sheet .heads .stages) (r .tasks)
+
+      starts-is : told-starts ≡ starts
+      starts-is = ap (startsText (heads .names) (heads .fields + heads .events) (heads .stages)) (ap (λ (r : Reply). r .tasks) reply-is)
+
+      pub read-starts : r .count + length told-starts ≤ length o1
+      read-starts = rw starts-is (wrote-room 0 (textAfter read c e) starts o o1 (r .count) both-fit carded)
+
+      module _ (o2 : List ℕ) (b : ℕ) (v : Wrote (r .count) told-starts o1 o2 b) where
+        begun : Wrote 0 (textAfter read c e ++ starts) o o2 b
+        begun = wrote-both 0 (textAfter read c e) starts o o1 (r .count) both-fit carded o2 b (rw starts-is at v)
+
+        pub read-listed : b + 77824 ≤ length o2
+        read-listed = omega (arith, begun .next, wrote-long 0 (textAfter read c e ++ starts) listed o o2 b all-fit begun, few, w .next-few, length-append (textAfter read c e) starts)
+
+        pub read-done : (o3 : List ℕ) (n : ℕ) → Wrote b (listedText (read .sheet) (read .happening .event) (read .values) (read .card .marks)) o2 o3 n → Wrote 0 (caseText read c e) o o3 n
+        unfolding caseText
+        read-done o3 n u = wrote-both 0 (textAfter read c e ++ starts) listed o o2 b all-fit begun o3 n u
+
+pub ruleset reading = (read-held, read-sized, read-ready, read-card, read-event, read-sum, read-names, read-starts, read-listed, read-done)
+
+-- THE PAPERS OF A CASE
+
+module _ (s c e : List ℕ) (read : CaseRead) (told : read ≡ asCase (readCase s c e)) where
+  pub case-refused : (read .number ≡ 0 → ⊥) → (o o1 : List ℕ) (r : ℕ) → Wrote 0 (refusalText (read .number) (read .paper) (read .line)) o o1 r → Wrote 0 (printed (readCase s c e)) o o1 r
+  unfolding printed
+  case-refused z o o1 r v = rw (case-wrong s c e read told z) v
+
+  module _ (z : read .number ≡ 0) where
+    pub case-within : Within read c e
+    case-within = let (k, q, is, papers) = case-read s c e read told z in subst (λ (x : CaseRead). Within x c e) (sym is) (within s c e k q)
+
+    pub case-done : (o o1 : List ℕ) (r : ℕ) → Wrote 0 (caseText read c e) o o1 r → Wrote 0 (printed (readCase s c e)) o o1 r
+    case-done o o1 r v =
+        let (k, q, is, papers) = case-read s c e read told z in
+        subst (λ w. Wrote 0 w o o1 r) (ap (λ (x : CaseRead). caseText x c e) is ∙ sym (ap printed q ∙ printed-is s c e k q)) v
+
+-- room for a refusal
+pub refusal-room : (n p l : ℕ) (o : List ℕ) → 81920 ≤ length o → length (refusalText n p l) ≤ length o
+refusal-room n p l o h = omega (arith, refusal-few n p l)
+
+pub ruleset casing = (refusal-room, case-refused, case-within, case-done)
+
+-- THE WHOLE INPUT
+
+front-of : (w o o1 : List ℕ) (r : ℕ) → Wrote 0 w o o1 r → Front w r o o1
+front-of w o o1 r v =
+    let z : 0 + length w ≡ length w = omega arith in
+    record { count = v .next ∙ z; list = v .space ∙ ap (λ n. w ++ drop n o) (sym (v .next)) }
+
+module _ (input o : List ℕ) where
+  pub desk-long : 34304 < length input → (o1 : List ℕ) (r : ℕ) → Wrote 0 (refusalText 1 0 0) o o1 r → Front (deskOutput input) r o o1
+  unfolding deskOutput
+  desk-long h o1 r v = rw (lt-ltb 34304 (length input) h, deskOutput) (front-of (refusalText 1 0 0) o o1 r v)
+
+  module _ (a : ℕ) (first : a ≡ paperLength true input) where
+    pub desk-first : a ≡ length (take a input)
+    desk-first = part-long input a (paper-fits input a first)
+
+    pub desk-first-in : a ≤ length input
+    desk-first-in = paper-fits input a first
+
+    module _ (rest : List ℕ) (after : rest ≡ drop a input) (b : ℕ) (second : b ≡ paperLength true rest) where
+      pub desk-second : b ≡ length (take b rest)
+      desk-second = part-long rest b (paper-fits rest b second)
+
+      pub desk-second-in : b ≤ length rest
+      desk-second-in = paper-fits rest b second
+
+      pub desk-done : length input ≤ 34304 → (last : List ℕ) → last ≡ drop b rest → (o1 : List ℕ) (r : ℕ)
+          → Wrote 0 (printed (readCase (take a input) (take b rest) last)) o o1 r → Front (deskOutput input) r o o1
+      unfolding deskOutput firstPaper afterPaper
+      desk-done h last behind o1 r v = rw (le-ltb 34304 (length input) h, deskOutput)
+          (rw (← first, ← after, ← second, ← behind) (front-of (printed (readCase (take a input) (take b rest) last)) o o1 r v))
+
+pub ruleset desking = (refusal-room, desk-long, desk-first, desk-first-in, desk-second, desk-second-in, desk-done)

@@ -1,0 +1,6 @@
+-- The lines behind the next card, one after another:
+pub mod Lines
+-- What is printed for a case and for the whole input, return by return:
+pub mod Laws
+-- That no second answer fits the contract:
+pub mod Only

@@ -1,0 +1,60 @@
+-- A line for each pattern. The loop: the lines of the patterns that are left are still to be written.
+-- Assumes nothing.
+use borrow.Author.Needs.{needs}
+use Prim.Native.Nat.{_-_}
+use lib.ListN.{length, drop}
+use Rattle.meaning.specs.Text.{joined}
+use Rattle.space.proofs.Laws.{Left}
+use Rattle.print.specs.Lines.{patternText}
+use Rattle.output.proofs.Lines.{listing}
+use Rattle.output.proofs.put_patterns.Statement.{statement}
+use Rattle.output.proofs.put_patterns.Tie as tie
+
+abbrev Inv-loop : tie.InvT-loop
+Inv-loop out₀ at patterns to₀ i₀ out to i = Left at (joined patternText patterns) out₀ to (joined patternText (drop i patterns)) out
+
+abbrev μ-loop : tie.MeasureT-loop
+μ-loop out₀ at patterns to₀ i₀ out to i = length patterns - i
+
+loop-holds : tie.Need-loop-holds Inv-loop μ-loop
+loop-holds c = search (needs, listing)
+
+mul-put-pattern : tie.Need-mul-put-pattern Inv-loop μ-loop
+mul-put-pattern c = search (needs, listing)
+
+shared-slice-read-put-pattern : tie.Need-shared-slice-read-put-pattern Inv-loop μ-loop
+shared-slice-read-put-pattern c = search (needs, listing)
+
+put-pattern-requires : tie.Need-put-pattern-requires Inv-loop μ-loop
+put-pattern-requires c κs = search (needs, listing)
+
+add-i : tie.Need-add-i Inv-loop μ-loop
+add-i c = search (needs, listing)
+
+loop-less : tie.Need-loop-less Inv-loop μ-loop
+loop-less c = search (needs, listing)
+
+loop-again : tie.Need-loop-again Inv-loop μ-loop
+loop-again c = search (needs, listing)
+
+same-length : tie.Need-same-length Inv-loop μ-loop
+same-length c = search (needs, listing)
+
+returns : tie.Need-returns Inv-loop μ-loop
+returns c = search (needs, listing)
+
+pub put-patterns-spec : {M : Type 1} → statement M
+put-patterns-spec =
+    tie.close
+    (tie.spec
+    Inv-loop
+    μ-loop
+    loop-holds
+    mul-put-pattern
+    shared-slice-read-put-pattern
+    put-pattern-requires
+    add-i
+    loop-less
+    loop-again
+    same-length
+    returns)

@@ -1,0 +1,204 @@
+-- Numbers and lines put into lent space, piece by piece, in the form in which the functions' answers need them.
+use Prim.Native.Nat.{ℕ, zero, suc, _+_, _-_, _/_, _%_, _<_, _≤_}
+use mathlib.Core.Path.{_≡_, refl, sym, _∙_, ap, subst}
+use mathlib.Core.Bool.{Bool, true, false}
+use mathlib.Core.List.{List, [], _∷_, _++_, append-assoc}
+use native.Mathlib.Omega.{arith}
+use borrow.Author.Tests.{eq-eqb, ne-eqb, lt-ltb, le-ltb}
+use lib.ListN.{length, length-append}
+use Rattle.meaning.specs.Text.{text}
+use Rattle.meaning.specs.Number.{decimal, writtenIn}
+use Rattle.meaning.specs.Write.{line}
+use Rattle.meaning.specs.Desk.{refusalText}
+use Rattle.text.specs.Packed.{named}
+use Rattle.space.specs.Answers.{Wrote}
+use Rattle.space.proofs.Laws.{left-start, left-end, wrote-room, wrote-both}
+use Rattle.print.specs.Lines.{startText, patternText, manyText}
+
+-- PIECES, one behind the other
+
+-- nothing is written
+wrote-none : (at : ℕ) (w o : List ℕ) → at + length w ≤ length o → w ≡ [] → Wrote at w o o at
+wrote-none at w o h e = left-end at w o at w o (left-start at w o h) e
+
+-- a text that is two pieces: room for the first, room for the second, and both
+module _ (at : ℕ) (w x y o : List ℕ) (whole : w ≡ x ++ y) (fits : at + length w ≤ length o) where
+  both-fit : at + length (x ++ y) ≤ length o
+  both-fit = rw whole at fits
+
+  first-room : at + length x ≤ length o
+  first-room = omega (arith, both-fit, length-append x y)
+
+  module _ (o1 : List ℕ) (a : ℕ) (v : Wrote at x o o1 a) where
+    second-room : a + length y ≤ length o1
+    second-room = wrote-room at x y o o1 a both-fit v
+
+    both-written : (o2 : List ℕ) (r : ℕ) → Wrote a y o1 o2 r → Wrote at w o o2 r
+    both-written o2 r u = subst (λ w. Wrote at w o o2 r) (sym whole) (wrote-both at x y o o1 a both-fit v o2 r u)
+
+-- NUMBERS
+
+digits-one : (left n : ℕ) → (left ≡ 0 → ⊥) → n < 10 → writtenIn left n ≡ (48 + n) ∷ []
+unfolding writtenIn
+digits-one zero n z h = absurd (z refl)
+digits-one (suc k) n z h = rw (lt-ltb n 10 h, writtenIn)
+
+digits-more : (left n : ℕ) → (left ≡ 0 → ⊥) → 10 ≤ n → writtenIn left n ≡ writtenIn (left - 1) (n / 10) ++ ((48 + n % 10) ∷ [])
+unfolding writtenIn
+digits-more zero n z h = absurd (z refl)
+digits-more (suc k) n z h = let y : suc k - 1 ≡ k = omega arith in rw (le-ltb n 10 h, writtenIn, y)
+
+pub digits-below : (left : ℕ) → (left ≡ 0 → ⊥) → (k : ℕ) → k ≡ left - 1 → k < left
+digits-below left z k e = omega arith
+
+module _ (n left at : ℕ) (o : List ℕ) (fits : at + length (writtenIn left n) ≤ length o) where
+  pub digits-none : left ≡ 0 → Wrote at (writtenIn left n) o o at
+  unfolding writtenIn
+  digits-none e = wrote-none at (writtenIn left n) o fits (rw e)
+
+  module _ (some : left ≡ 0 → ⊥) where
+    pub digit-room : n < 10 → at + 1 ≤ length o
+    digit-room h = omega (arith, ap length (digits-one left n some h))
+
+    pub digit-done : n < 10 → (b : ℕ) → b ≡ 48 + n → (o1 : List ℕ) (r : ℕ) → Wrote at (b ∷ []) o o1 r → Wrote at (writtenIn left n) o o1 r
+    digit-done h b e o1 r v = rw (digits-one left n some h, ← e) v
+
+    module _ (high : 10 ≤ n) (m k : ℕ) (m-is : m ≡ n / 10) (k-is : k ≡ left - 1) where
+      front : writtenIn left n ≡ writtenIn k m ++ ((48 + n % 10) ∷ [])
+      front = rw (m-is, k-is) (digits-more left n some high)
+
+      pub digits-front : at + length (writtenIn k m) ≤ length o
+      digits-front = first-room at (writtenIn left n) (writtenIn k m) ((48 + n % 10) ∷ []) o front fits
+
+      module _ (o1 : List ℕ) (a : ℕ) (v : Wrote at (writtenIn k m) o o1 a) where
+        pub digits-last : a + 1 ≤ length o1
+        digits-last = second-room at (writtenIn left n) (writtenIn k m) ((48 + n % 10) ∷ []) o front fits o1 a v
+
+        pub digits-done : (b : ℕ) → b ≡ 48 + n % 10 → (o2 : List ℕ) (r : ℕ) → Wrote a (b ∷ []) o1 o2 r → Wrote at (writtenIn left n) o o2 r
+        digits-done b e o2 r u = both-written at (writtenIn left n) (writtenIn k m) ((48 + n % 10) ∷ []) o front fits o1 a v o2 r (rw e at u)
+
+pub ruleset digiting = (digits-below, digits-none, digit-room, digit-done, digits-front, digits-last, digits-done)
+
+-- a number and the byte behind it
+module _ (n b at : ℕ) (o : List ℕ) (fits : at + length (decimal n ++ (b ∷ [])) ≤ length o) where
+  pub number-room : at + length (writtenIn 10 n) ≤ length o
+  unfolding decimal
+  number-room = first-room at (decimal n ++ (b ∷ [])) (decimal n) (b ∷ []) o refl fits
+
+  module _ (o1 : List ℕ) (a : ℕ) (v : Wrote at (writtenIn 10 n) o o1 a) where
+    pub number-byte : a + 1 ≤ length o1
+    unfolding decimal
+    number-byte = second-room at (decimal n ++ (b ∷ [])) (decimal n) (b ∷ []) o refl fits o1 a v
+
+    pub number-done : (o2 : List ℕ) (r : ℕ) → Wrote a (b ∷ []) o1 o2 r → Wrote at (decimal n ++ (b ∷ [])) o o2 r
+    unfolding decimal
+    number-done o2 r u = both-written at (decimal n ++ (b ∷ [])) (decimal n) (b ∷ []) o refl fits o1 a v o2 r u
+
+pub ruleset numbering = (number-room, number-byte, number-done)
+
+-- LINES
+
+-- the line of a refusal
+module _ (n p l : ℕ) (o : List ℕ) (fits : length (refusalText n p l) ≤ length o) where
+  abbrev numbers : List ℕ
+  numbers = (decimal n ++ (32 ∷ [])) ++ ((decimal p ++ (32 ∷ [])) ++ (decimal l ++ (10 ∷ [])))
+
+  abbrev places : List ℕ
+  places = (decimal p ++ (32 ∷ [])) ++ (decimal l ++ (10 ∷ []))
+
+  refusal-whole : refusalText n p l ≡ text "refused=" ++ numbers
+  unfolding refusalText line
+  refusal-whole = simp append-assoc
+
+  refusal-fits : 0 + length (refusalText n p l) ≤ length o
+  refusal-fits = omega arith
+
+  pub refusal-key : 0 + 8 ≤ length o
+  refusal-key = first-room 0 (refusalText n p l) (text "refused=") numbers o refusal-whole refusal-fits
+
+  module _ (o1 : List ℕ) (a : ℕ) (v1 : Wrote 0 (text "refused=") o o1 a) where
+    fits-1 : a + length numbers ≤ length o1
+    fits-1 = second-room 0 (refusalText n p l) (text "refused=") numbers o refusal-whole refusal-fits o1 a v1
+
+    pub refusal-number : a + length (decimal n ++ (32 ∷ [])) ≤ length o1
+    refusal-number = first-room a numbers (decimal n ++ (32 ∷ [])) places o1 refl fits-1
+
+    module _ (o2 : List ℕ) (b : ℕ) (v2 : Wrote a (decimal n ++ (32 ∷ [])) o1 o2 b) where
+      fits-2 : b + length places ≤ length o2
+      fits-2 = second-room a numbers (decimal n ++ (32 ∷ [])) places o1 refl fits-1 o2 b v2
+
+      pub refusal-paper : b + length (decimal p ++ (32 ∷ [])) ≤ length o2
+      refusal-paper = first-room b places (decimal p ++ (32 ∷ [])) (decimal l ++ (10 ∷ [])) o2 refl fits-2
+
+      module _ (o3 : List ℕ) (c : ℕ) (v3 : Wrote b (decimal p ++ (32 ∷ [])) o2 o3 c) where
+        pub refusal-line : c + length (decimal l ++ (10 ∷ [])) ≤ length o3
+        refusal-line = second-room b places (decimal p ++ (32 ∷ [])) (decimal l ++ (10 ∷ [])) o2 refl fits-2 o3 c v3
+
+        pub refusal-done : (o4 : List ℕ) (r : ℕ) → Wrote c (decimal l ++ (10 ∷ [])) o3 o4 r → Wrote 0 (refusalText n p l) o o4 r
+        refusal-done o4 r v4 =
+            let w2 = both-written b places (decimal p ++ (32 ∷ [])) (decimal l ++ (10 ∷ [])) o2 refl fits-2 o3 c v3 o4 r v4 in
+            let w1 = both-written a numbers (decimal n ++ (32 ∷ [])) places o1 refl fits-1 o2 b v2 o4 r w2 in
+            both-written 0 (refusalText n p l) (text "refused=") numbers o refusal-whole refusal-fits o1 a v1 o4 r w1
+
+pub ruleset refusing = (refusal-key, refusal-number, refusal-paper, refusal-line, refusal-done)
+
+-- the line of a task
+module _ (n t at : ℕ) (o : List ℕ) (fits : at + length (startText n t) ≤ length o) where
+  pub start-none : (t % 2 ≡ 1 → ⊥) → Wrote at (startText n t) o o at
+  unfolding startText
+  start-none e = wrote-none at (startText n t) o fits (rw (ne-eqb (t % 2) 1 e))
+
+  module _ (so : t % 2 ≡ 1) where
+    start-whole : startText n t ≡ text "start=" ++ (named n ++ (10 ∷ []))
+    unfolding startText line
+    start-whole = rw (eq-eqb (t % 2) 1 so) (simp append-assoc)
+
+    pub start-key : at + 6 ≤ length o
+    start-key = first-room at (startText n t) (text "start=") (named n ++ (10 ∷ [])) o start-whole fits
+
+    module _ (o1 : List ℕ) (a : ℕ) (v1 : Wrote at (text "start=") o o1 a) where
+      value-fits : a + length (named n ++ (10 ∷ [])) ≤ length o1
+      value-fits = second-room at (startText n t) (text "start=") (named n ++ (10 ∷ [])) o start-whole fits o1 a v1
+
+      pub start-name : a + length (named n) ≤ length o1
+      start-name = first-room a (named n ++ (10 ∷ [])) (named n) (10 ∷ []) o1 refl value-fits
+
+      module _ (o2 : List ℕ) (b : ℕ) (v2 : Wrote a (named n) o1 o2 b) where
+        pub start-feed : b + 1 ≤ length o2
+        start-feed = second-room a (named n ++ (10 ∷ [])) (named n) (10 ∷ []) o1 refl value-fits o2 b v2
+
+        pub start-done : (o3 : List ℕ) (r : ℕ) → Wrote b (10 ∷ []) o2 o3 r → Wrote at (startText n t) o o3 r
+        start-done o3 r v3 =
+            let w1 = both-written a (named n ++ (10 ∷ [])) (named n) (10 ∷ []) o1 refl value-fits o2 b v2 o3 r v3 in
+            both-written at (startText n t) (text "start=") (named n ++ (10 ∷ [])) o start-whole fits o1 a v1 o3 r w1
+
+pub ruleset starting = (start-none, start-key, start-name, start-feed, start-done)
+
+-- the line of a pattern
+module _ (p at : ℕ) (o : List ℕ) (fits : at + length (patternText p) ≤ length o) where
+  pattern-whole : patternText p ≡ text "outlook=" ++ (decimal p ++ (10 ∷ []))
+  unfolding line
+  pattern-whole = simp append-assoc
+
+  pub pattern-key : at + 8 ≤ length o
+  pattern-key = first-room at (patternText p) (text "outlook=") (decimal p ++ (10 ∷ [])) o pattern-whole fits
+
+  module _ (o1 : List ℕ) (a : ℕ) (v : Wrote at (text "outlook=") o o1 a) where
+    pub pattern-number : a + length (decimal p ++ (10 ∷ [])) ≤ length o1
+    pattern-number = second-room at (patternText p) (text "outlook=") (decimal p ++ (10 ∷ [])) o pattern-whole fits o1 a v
+
+    pub pattern-done : (o2 : List ℕ) (r : ℕ) → Wrote a (decimal p ++ (10 ∷ [])) o1 o2 r → Wrote at (patternText p) o o2 r
+    pattern-done o2 r u = both-written at (patternText p) (text "outlook=") (decimal p ++ (10 ∷ [])) o pattern-whole fits o1 a v o2 r u
+
+pub ruleset patterning = (pattern-key, pattern-number, pattern-done)
+
+-- the line of a refused outlook
+pub many-room : (at : ℕ) (o : List ℕ) → at + length manyText ≤ length o → at + 16 ≤ length o
+unfolding line
+many-room at o h = h
+
+pub many-done : (at : ℕ) (o o1 : List ℕ) (r : ℕ) → Wrote at (text "outlook=refused\n") o o1 r → Wrote at manyText o o1 r
+unfolding line
+many-done at o o1 r v = v
+
+pub ruleset overflowing = (many-room, many-done)

@@ -1,0 +1,2 @@
+-- The lines that the desk program prints:
+pub mod Lines
