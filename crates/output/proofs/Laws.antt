@@ -1,5 +1,5 @@
 -- What the desk program prints for a case and for the whole input, return by return: what is known there, and the answer that is asked.
-use Prim.Native.Nat.{ℕ, zero, suc, _+_, _-_, _*_, _/_, _%_, _^_, _<_, _≤_}
+use Prim.Native.Nat.{ℕ, zero, suc, _+_, _*_, _/_, _%_, _<_, _≤_}
 use mathlib.Core.Path.{_≡_, refl, sym, _∙_, ap, ap₂, subst}
 use mathlib.Core.Bool.{Bool, true, false, cond}
 use mathlib.Core.List.{List, [], _∷_, _++_, map}
@@ -15,7 +15,7 @@ use Rattle.meaning.specs.Refusal.{Answer, taken, refused, onTaken, MANY, ROOM}
 use Rattle.meaning.specs.Sheet.{Sheet, Event, Status, eventNames, statusNames, statuses, withRules}
 use Rattle.meaning.specs.Step.{moment, putIn, startedFrom, started, pattern}
 use Rattle.meaning.specs.Outlook as Outlook
-use Rattle.meaning.specs.Write.{line, cardText}
+use Rattle.meaning.specs.Write.{line}
 use Rattle.meaning.specs.Doors.{Case, readCase, next, outlook, fitting, replied, written}
 use Rattle.meaning.specs.Desk.{paperLength, firstPaper, afterPaper, refusalText, startLines, outlookLines, printed, deskOutput}
 use Rattle.theory.specs.Formed.{Well}
@@ -31,7 +31,6 @@ use Rattle.space.proofs.Laws.{wrote-long, wrote-room, wrote-both}
 use Rattle.write.specs.Answers.{spaceWith}
 use Rattle.sets.specs.Front.{Front}
 use Rattle.combos.specs.Numbered.{size}
-use Rattle.accepted.specs.declared.Accepted.{Accepted}
 use Rattle.accepted.proofs.Callers.{heads-bare}
 use Rattle.case.specs.declared.CaseRead.{CaseRead}
 use Rattle.case.specs.declared.Reply.{Reply}

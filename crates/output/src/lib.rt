@@ -1,5 +1,4 @@
 // The desk program's output: what it prints for the whole of its input, put into lent space.
-ghost use mathlib.Core.Path.{_≡_};
 ghost use Prim.Native.Nat.{_≤_, _+_};
 ghost use lib.ListN.{length};
 ghost use Rattle.meaning.specs.Text.{joined};

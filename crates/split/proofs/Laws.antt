@@ -1,5 +1,5 @@
 -- Lines and papers at the start of a text, in the form in which the functions' answers need them.
-use Prim.Native.Nat.{ℕ, zero, suc, _+_, _-_, _^_, _<_, _≤_}
+use Prim.Native.Nat.{ℕ, suc, _+_, _^_, _<_, _≤_}
 use mathlib.Core.Path.{_≡_, refl, sym, _∙_, ap}
 use mathlib.Core.Bool.{Bool, true, false, not, _&&_}
 use mathlib.Core.List.{List, [], _∷_}
@@ -9,7 +9,7 @@ use mir.Val.{Fits}
 use mir.Syntax.{w64}
 use borrow.Author.Tests.{eq-eqb, ne-eqb, not-true, not-false}
 use lib.Dec.{eqb}
-use lib.ListN.{length, drop, getD, drop-of-length-le, length-drop}
+use lib.ListN.{length, drop, getD, length-drop}
 use lib.Seq.{drop-cons}
 use Rattle.meaning.specs.Text.{text, begins}
 use Rattle.meaning.specs.Desk.{lineLength, paperLength}
