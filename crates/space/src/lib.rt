@@ -10,7 +10,7 @@ ghost use Rattle.text.specs.Packed.{byteOf, named};
 ghost use Rattle.space.specs.Answers.{isYes, Wrote};
 
 // Puts a byte at a place of `out`, and tells the place behind it.
-fn put_byte(out: &mut [u8], at: usize, b: u8) -> usize
+pub fn put_byte(out: &mut [u8], at: usize, b: u8) -> usize
     requires { ⌜ at + 1 ≤ length (now out) ⌝ }
     ensures { λ r. ⌜ Wrote at (b ∷ []) (now (out .entry)) (now (out .exit)) r ⌝ }
 {
@@ -19,7 +19,7 @@ fn put_byte(out: &mut [u8], at: usize, b: u8) -> usize
 }
 
 // Puts a text at a place of `out`, and tells the place behind it.
-fn put_text(out: &mut [u8], at: usize, w: &[u8]) -> usize
+pub fn put_text(out: &mut [u8], at: usize, w: &[u8]) -> usize
     requires { ⌜ at + length (now w) ≤ length (now out) ⌝ }
     ensures { λ r. ⌜ Wrote at (now (w .entry)) (now (out .entry)) (now (out .exit)) r ⌝ }
 {
@@ -49,7 +49,7 @@ fn symbol_byte(d: u64) -> u8
 }
 
 // Puts the name for which a number stands.
-fn put_name(out: &mut [u8], at: usize, name: u64) -> usize
+pub fn put_name(out: &mut [u8], at: usize, name: u64) -> usize
     requires { ⌜ at + length (named name) ≤ length (now out) ⌝ }
     ensures { λ r. ⌜ Wrote at (named name) (now (out .entry)) (now (out .exit)) r ⌝ }
 {

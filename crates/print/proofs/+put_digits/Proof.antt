@@ -8,7 +8,7 @@ use borrow.Fn.PlainCycle.{Measures, is, falls, and}
 use Rattle.print.proofs.put_digits.Reads as put-digits
 use Rattle.print.proofs.put_digits.Kinds as put-digits-kinds
 use Rattle.print.proofs.+put_digits.Lts-put_digits as put-digits-lts
-use Rattle.print.proofs.put_byte.Reads as put-byte-reads
+use Rattle.space.proofs.put_byte.Reads as put-byte-reads
 use Rattle.print.proofs.+put_digits.{statement}
 use Rattle.print.proofs.+put_digits.Tie.{close}
 
