@@ -33,13 +33,18 @@ module _ (list : List ℕ) (x at : ℕ) (is : at ≡ x) where
 pub yes-is : (marks : List ℕ) (x e : ℕ) → e ≡ getD marks x 0 → eqb e 2 ≡ run.yes marks x
 yes-is marks x e is = ap (λ n. eqb n 2) is
 
+module _ (before after : List ℕ) (x : ℕ) (b : Bool) (is : b ≡ run.yes after x) where
+  pub rose-not : not b ≡ true → false ≡ roseIn before after x
+  rose-not t = rw (← is, not-true b t) (sym (and-false (not (run.yes before x))))
+
+  pub rose-is : not b ≡ false → (a : Bool) → a ≡ run.yes before x → not a ≡ roseIn before after x
+  rose-is t a e = rw (← is, not-false b t, ← e) (sym (and-true (not a)))
+    where
+      and-true : (c : Bool) → c && true ≡ c
+      and-true true = refl
+      and-true false = refl
+
 module _ (before after : List ℕ) (x : ℕ) (b : Bool) (is : b ≡ run.yes before x) where
-  pub rose-not : b ≡ true → false ≡ roseIn before after x
-  rose-not t = rw (← is, t)
-
-  pub rose-is : b ≡ false → (a : Bool) → a ≡ run.yes after x → a ≡ roseIn before after x
-  rose-is t a e = rw (← is, t) e
-
   pub fell-not : not b ≡ true → false ≡ fellIn before after x
   fell-not t = rw (← is, not-true b t)
 

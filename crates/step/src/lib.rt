@@ -53,10 +53,10 @@ fn yes(marks: &[u8; 32], x: u8) -> bool
 fn rose(before: &[u8; 32], after: &[u8; 32], x: u8) -> bool
     ensures { λ r. ⌜ r ≡ roseIn (now (before .entry)) (now (after .entry)) x ⌝ }
 {
-    if yes(before, x) {
+    if !yes(after, x) {
         return false;
     }
-    yes(after, x)
+    !yes(before, x)
 }
 
 fn fell(before: &[u8; 32], after: &[u8; 32], x: u8) -> bool
