@@ -42,50 +42,43 @@ pub fn outlook(sheet: &[u8], card: &[u8], event: &[u8], out: &mut [u32]) -> Repl
     Reply::of(reply)
 }
 
+/// Hands the papers and the lent space of a request on, each slice as a pointer and its length.
+macro_rules! request {
+    ($door:ident, $sheet:ident, $card:ident, $event:ident, $out:ident, $reply:ident) => {
+        // SAFETY: each pointer comes from a slice of the length given with it; `out` and `reply` are lent to this call alone.
+        unsafe {
+            library::$door(
+                $sheet.as_ptr(),
+                $sheet.len(),
+                $card.as_ptr(),
+                $card.len(),
+                $event.as_ptr(),
+                $event.len(),
+                $out.as_mut_ptr(),
+                $out.len(),
+                $reply.as_mut_ptr(),
+                $reply.len(),
+            )
+        }
+    };
+}
+
 /// The step as the library has it: the five numbers go to the start of `reply`, and the first is returned; 9, and
 /// nothing touched, where `reply` is too short.
 pub fn step_into(sheet: &[u8], card: &[u8], event: &[u8], out: &mut [u8], reply: &mut [u64]) -> u64 {
-    // SAFETY: each pointer comes from a slice of the length given with it; `out` and `reply` are lent to this call alone.
-    unsafe {
-        library::reambodkin_step(
-            sheet.as_ptr(),
-            sheet.len(),
-            card.as_ptr(),
-            card.len(),
-            event.as_ptr(),
-            event.len(),
-            out.as_mut_ptr(),
-            out.len(),
-            reply.as_mut_ptr(),
-            reply.len(),
-        )
-    }
+    request!(reambodkin_step, sheet, card, event, out, reply)
 }
 
 /// The outlook as the library has it, likewise.
 pub fn outlook_into(sheet: &[u8], card: &[u8], event: &[u8], out: &mut [u32], reply: &mut [u64]) -> u64 {
-    // SAFETY: as above.
-    unsafe {
-        library::reambodkin_outlook(
-            sheet.as_ptr(),
-            sheet.len(),
-            card.as_ptr(),
-            card.len(),
-            event.as_ptr(),
-            event.len(),
-            out.as_mut_ptr(),
-            out.len(),
-            reply.as_mut_ptr(),
-            reply.len(),
-        )
-    }
+    request!(reambodkin_outlook, sheet, card, event, out, reply)
 }
 
 /// The length of the desk's output, which stands at the start of `out`; 0, and nothing touched, where `out` has fewer
 /// than 81,920 bytes.
 #[cfg(feature = "desk")]
 pub fn desk(input: &[u8], out: &mut [u8]) -> usize {
-    // SAFETY: as above.
+    // SAFETY: both pointers come from slices of the lengths given with them, and `out` is lent to this call alone.
     unsafe { library::reambodkin_desk(input.as_ptr(), input.len(), out.as_mut_ptr(), out.len()) }
 }
 

@@ -1,6 +1,6 @@
 //! One case looked at from all sides by the second implementation: its answers counted, small ones checked by the book.
 
-use std::io::Write;
+use std::{io::Write, process::ExitCode};
 
 use crate::{
     Next, book,
@@ -99,8 +99,18 @@ pub fn on_large_stack<T: Send + 'static>(work: impl FnOnce() -> T + Send + 'stat
     thread.join().expect("the work ends")
 }
 
-/// SEED and COUNT from the command line.
-pub fn seed_and_count() -> Result<(u64, u64), String> {
+/// A program over SEED and COUNT from the command line, on a large stack.
+pub fn from_arguments(work: fn(u64, u64) -> ExitCode) -> ExitCode {
+    match seed_and_count() {
+        Ok((seed, count)) => on_large_stack(move || work(seed, count)),
+        Err(usage) => {
+            eprintln!("{usage}");
+            ExitCode::FAILURE
+        }
+    }
+}
+
+fn seed_and_count() -> Result<(u64, u64), String> {
     let numbers: Result<Vec<u64>, _> = std::env::args().skip(1).map(|argument| argument.parse()).collect();
     match numbers.as_deref() {
         Ok([]) => Ok((1, 100_000)),

@@ -9,7 +9,7 @@ use second::{
     generate::{generate, random_of},
     papers::Papers,
     statistic::{Request, Statistic},
-    survey::{Answers, ENOUGH_CASES, check_by_book, on_large_stack, say, seed_and_count},
+    survey::{Answers, ENOUGH_CASES, check_by_book, from_arguments, say},
 };
 
 /// Entries or bytes behind the lent space, which must stay as they are.
@@ -18,20 +18,17 @@ const GUARD: usize = 32;
 type Reply = [u64; 5];
 
 fn main() -> ExitCode {
-    let (seed, count) = match seed_and_count() {
-        Ok(given) => given,
-        Err(usage) => {
-            eprintln!("{usage}");
-            return ExitCode::FAILURE;
-        }
-    };
-    on_large_stack(move || match compare_all(seed, count) {
+    from_arguments(compare)
+}
+
+fn compare(seed: u64, count: u64) -> ExitCode {
+    match compare_all(seed, count) {
         Ok(()) => ExitCode::SUCCESS,
         Err(difference) => {
             say(&format!("{difference}\n"));
             ExitCode::FAILURE
         }
-    })
+    }
 }
 
 fn compare_all(seed: u64, count: u64) -> Result<(), String> {

@@ -6,18 +6,11 @@ use second::{
     generate::{generate, random_of},
     refusal::{Fault, Refusal},
     statistic::{Request, Statistic},
-    survey::{Answers, ENOUGH_CASES, check_by_book, on_large_stack, say, seed_and_count},
+    survey::{Answers, ENOUGH_CASES, check_by_book, from_arguments, say},
 };
 
 fn main() -> ExitCode {
-    let (seed, count) = match seed_and_count() {
-        Ok(given) => given,
-        Err(usage) => {
-            eprintln!("{usage}");
-            return ExitCode::FAILURE;
-        }
-    };
-    on_large_stack(move || survey(seed, count))
+    from_arguments(survey)
 }
 
 fn survey(seed: u64, count: u64) -> ExitCode {
