@@ -10,7 +10,7 @@ use lib.ListN.{length, length-append, length-map}
 use Rattle.meaning.specs.Text.{In, text, joined}
 use Rattle.meaning.specs.Refusal.{Answer, taken, LINE, COND}
 use Rattle.meaning.specs.Limits.{ruleLimit, sheetBytes}
-use Rattle.meaning.specs.Reading.{Got, got, wrong, give, choose, demand, stands, oneOf, lineEnd, paper}
+use Rattle.meaning.specs.Reading.{give, choose, demand, stands, oneOf, lineEnd, paper}
 use Rattle.meaning.specs.Name.{Name, known}
 use Rattle.meaning.specs.Number.{endLine}
 use Rattle.meaning.specs.Condition.{Cond, leavesC}
@@ -19,33 +19,21 @@ use Rattle.meaning.specs.ReadCondition.{condition}
 use Rattle.meaning.specs.ReadSheet.{signs, trigger, ruleRow, section, rulesOf, sheet}
 use Rattle.theory.specs.Lists.{in-cases}
 use Rattle.theory.specs.Readers.{Ensures, Yields, give-ensures, choose-ensures, bind-ensures, any-ensures, ensures-weaker, ensures-both, section-ensures, Holds, paper-holds}
+use Rattle.theory.specs.Conditions.{condition-good}
 use Rattle.theory.specs.Formed.{Well}
 use Rattle.theory.specs.Sheets.{heads-well}
 use Rattle.verdict.specs.Fits.{Fits}
 use Rattle.verdict.specs.Flat.{words}
 use Rattle.verdict.proofs.Readable.{condition-fits}
-use Rattle.condition.specs.Answers.{asCondition}
-use Rattle.condition.specs.declared.CondRead.{CondRead}
-use Rattle.condition.specs.declared.CondRead.the-variants.{At, Refused}
-use Rattle.condition.proofs.Callers.{condition-read, condition-wrong, words-leaves}
-use Rattle.rules.specs.Answers.{wordsOf, allWords}
+use Rattle.condition.proofs.Callers.{words-leaves}
+use Rattle.rule.specs.Answers.{wordsOf}
+use Rattle.rules.specs.Answers.{allWords}
 
 -- ONE CONDITION
 
--- a refusal is not got
-wrong-got : {A B : Type 0} (n l : ℕ) (a : A) (k : ℕ) (t : List ℕ) → _≡_ {A = Got A} (wrong n l) (got a k t) → B
-wrong-got n l a k t e = absurd (let z : _≡_ {A = ℕ} 0 1 = cc in omega arith)
-
 -- behind so many leaves, what is read goes at most to the limit
 condition-few : (st fd : List Name) (n : ℕ) → Ensures (condition st fd n) (λ c. n + length (leavesC c) ≤ 512)
-condition-few st fd n = record { gives = λ l s. record { of = λ c k t e. go l s c k t e (asCondition s 0 n (condition st fd n 0 s)) refl } }
-  where
-    go : (l : ℕ) (s : List ℕ) (c : Cond) (k : ℕ) (t : List ℕ) → condition st fd n l s ≡ got c k t → (r : CondRead) → asCondition s 0 n (condition st fd n 0 s) ≡ r → n + length (leavesC c) ≤ 512
-    go l s c k t e (At p) q =
-        let h = condition-read st fd s 0 n (At p) (sym q) p refl in
-        let z : h .value ≡ c = let y = sym (h .reads l) ∙ e in cc in
-        omega (arith, h .few, h .leaves-is, ap (λ c. length (leavesC c)) z)
-    go l s c k t e (Refused m) q = wrong-got m l c k t (sym (condition-wrong st fd s 0 n (Refused m) (sym q) m refl l) ∙ e)
+condition-few st fd n = ensures-weaker (λ c h. h .few) (condition-good st fd n)
 
 -- ALL RULES
 

@@ -1,24 +1,26 @@
 -- The lines of the statuses, one at a time, and the first stage that is yes under a parent that is no.
-use Prim.Native.Nat.{ℕ, zero, suc, _+_, _-_, _≤_, _<_}
-use mathlib.Core.Path.{_≡_, refl, sym, _∙_, ap}
-use mathlib.Core.Bool.{Bool, true, false, cond, not, _&&_}
+use Prim.Native.Nat.{ℕ, suc, _+_, _-_, _≤_, _<_}
+use mathlib.Core.Path.{_≡_, refl, _∙_, ap}
+use mathlib.Core.Bool.{Bool, true, false, not, _&&_}
 use mathlib.Core.List.{List, [], _∷_, _++_, map}
 use mathlib.Core.Option.{some}
 use native.Mathlib.Omega.{arith}
+use native.Mathlib.Nat.{add-zero}
 use native.Mathlib.Numerals.{add-one}
 use borrow.Author.Tests.{eq-eqb, ne-eqb}
 use lib.Dec.{eqb}
-use lib.ListN.{length, take, drop, getD, set, replicate, length-drop, length-append, List·getD-map}
-use lib.Seq.{drop-drop, drop-length, getD-drop}
+use lib.ListN.{length, take, drop, getD, set, replicate, length-drop, List·getD-map}
+use lib.Seq.{getD-drop}
 use mir.Val.{Fits}
 use mir.Syntax.{w64}
 use Rattle.meaning.specs.Text.{from}
-use Rattle.meaning.specs.Reading.{Got, got, wrong, each}
+use Rattle.meaning.specs.Reading.{each}
 use Rattle.meaning.specs.Name.{Name}
 use Rattle.meaning.specs.Sheet.{Status}
 use Rattle.meaning.specs.Card.{is, statusMark, ended, shut, orphan}
 use Rattle.theory.specs.BuiltPapers.{ended-built, mark-line-built}
-use Rattle.theory.specs.Faults.{never-zero}
+use Rattle.theory.specs.Answered.{Found, answered-found, answered-wrong}
+use Rattle.theory.specs.Each.{Part, part-start, part-on}
 use Rattle.text.specs.Packed.{named}
 use Rattle.tables.specs.declared.Heads.{Heads}
 use Rattle.tables.proofs.Padded.{behind-at}
@@ -30,32 +32,20 @@ use Rattle.card.specs.declared.Orphan.the-variants as O
 use Rattle.card.specs.Answers.{markCode}
 use Rattle.card.specs.Parts.{MarksAs, sideOf, asOrphan}
 use Rattle.lines.specs.Answers.{asMark}
-use Rattle.lines.proofs.Pieces.{Marked}
-use Rattle.lines.proofs.Callers.{status-took, status-kept}
-use Rattle.card.proofs.Rows.{column-more, names-cons, names-length, before, before-none, each-wrong, each-more, each-over}
+use Rattle.lines.proofs.Callers.{markKind, status-ends}
+use Rattle.card.proofs.Rows.{column-more, names-cons, names-length, gave-end, gave-off}
 
 -- THE LINES
-abbrev statusLines : List Name → ℕ → List ℕ → Got (List Bool)
-statusLines ns = each (λ n. ended (statusMark n)) ns
-
-mark-code : (b : Bool) → cond b 2 0 ≡ markCode b
-mark-code true = refl
-mark-code false = refl
 
 -- before line i of these
 pub record MarksAt (s : List ℕ) (ns : List Name) (p line at : ℕ) (marks : List ℕ) (i : ℕ) : Type 0 where
   pub bs : List Bool
-  pub many : length bs ≡ i
-  pub few : i ≤ length ns
+  pub part : Part (λ n. ended (statusMark n)) ns (each (λ n. ended (statusMark n)) ns line (drop p s)) s (line + i) at i bs
   pub held : marks ≡ padded 32 0 (map markCode bs)
-  pub within : at ≤ length s
-  pub same : statusLines ns line (drop p s) ≡ before bs (statusLines (drop i ns) (line + i) (drop at s))
 
 pub marks-start : (s : List ℕ) (ns : List Name) (p line : ℕ) → p ≤ length s → MarksAt s ns p line p (replicate 32 0) 0
 unfolding padded
-marks-start s ns p line h =
-    let z : line + 0 ≡ line = omega arith in
-    record { bs = []; many = refl; few = omega arith; held = refl; within = h; same = rw z (before-none _) }
+marks-start s ns p line h = record { bs = []; part = rw add-zero (part-start _ ns s line p h); held = refl }
 
 module _ (s names : List ℕ) (first count p line at : ℕ) (marks : List ℕ) (i : ℕ)
     (g : MarksAt s (map named (take count (drop first names))) p line at marks i) (held : first + count ≤ length names) where
@@ -65,11 +55,8 @@ module _ (s names : List ℕ) (first count p line at : ℕ) (marks : List ℕ) (
   pub marks-done : count ≤ i → (l : ℕ) → l ≡ line + count
       → MarksAs s names first count p line (record { number = 0; line = l; at = at; marks = marks })
   marks-done h l z =
-      let ns = map named (take count (drop first names)) in
-      let e : i ≡ length ns = omega (arith, g .few, names-length (drop first names) count fewer) in
-      let d : line + i ≡ l = omega (arith, names-length (drop first names) count fewer) in
-      let y : statusLines ns line (drop p s) ≡ got (g .bs) l (drop at s) = g .same ∙ rw (d, e, drop-length ns) (each-over _ l (drop at s) (g .bs)) in
-      record { few = held; gave = record { within = g .within; low = omega arith; good = λ _. (g .bs, g .held, y); bad = λ n. absurd (n refl) } }
+      let d = names-length (drop first names) count fewer in
+      record { few = held; gave = gave-end (g .part) (line + count) (omega arith) (g .held) l (omega (arith, g .part .few)) (omega arith) }
 
   module _ (more : i < count) (j : ℕ) (where? : j ≡ first + i) (t : List ℕ) (q : MarkPiece) (rest : t ≡ drop at s)
       (is : q ≡ asMark t (ended (statusMark (named (getD names j 0))) 0 t)) where
@@ -78,39 +65,24 @@ module _ (s names : List ℕ) (first count p line at : ℕ) (marks : List ℕ) (
 
     pub marks-bad : (k l : ℕ) (r : MarksRead) → q ≡ M.Refused k → l ≡ line + i → (r .number ≡ k) × (r .line ≡ l) × (r .at ≡ 0) → MarksAs s names first count p line r
     marks-bad k l r e y z =
-        let w : ended (statusMark (named (getD names j 0))) l t ≡ wrong k l = status-kept _ t q is k e l in
-        let u : statusLines (map named (take count (drop first names))) line (drop p s) ≡ wrong k l
-        = g .same ∙ rw (← y, ← rest, here) (each-wrong _ _ _ l t k l (g .bs) w) in
-        let n : k ≡ 0 → ⊥ = never-zero (ended-built (mark-line-built (named (getD names j 0)))) l t k l w in
-        record { few = held; gave = record { within = omega (arith, z .2); low = omega (arith, z .1); good = λ o. absurd (n (sym (z .0) ∙ o)); bad = λ _. u ∙ rw (z .0, z .1) } }
+        let kept = answered-wrong markKind (status-ends _ t) q is k (ap (markKind .size) e) (line + i) in
+        record { few = held; gave = gave-off (g .part) (line + count) _ here (ended-built (mark-line-built _)) t rest k kept (omega arith) _ _ _ (z .0) (z .1 ∙ y) (z .2) }
 
     module _ (b n : ℕ) (e : q ≡ M.Mark b n) where
-      taken : Marked suc (ended (statusMark (named (getD names j 0)))) t b n
-      taken = status-took _ t q is b n e
-
-      fits : at + n ≤ length s
-      fits = omega (arith, taken .within, ap length rest, length-drop at s, g .within)
+      taken : Found markKind suc (λ b n. Unit {0}) (ended (statusMark (named (getD names j 0)))) t q n
+      taken = answered-found markKind (status-ends _ t) q is n (ap (markKind .size) e)
 
       pub marks-room : length s ≤ 1024 → (k : ℕ) → k ≡ at + n → Fits w64 k
-      marks-room h k z = omega (arith, fits)
+      marks-room h k z = omega (arith, taken .within, ap length rest, length-drop at s, g .part .within)
 
       pub marks-more : count ≤ 32 → (at′ i′ : ℕ) → at′ ≡ at + n → i′ ≡ i + 1 → MarksAt s (map named (take count (drop first names))) p line at′ (set marks i b) i′
       marks-more h at′ i′ x y =
-          let ns = map named (take count (drop first names)) in
-          let d : length ns ≡ count = names-length (drop first names) count fewer in
-          let m : statusLines (drop i ns) (line + i) (drop at s) ≡ statusLines (named (getD names j 0) ∷ drop (i + 1) ns) (line + i) t = rw (← rest, here) in
-          let o : drop n t ≡ drop at′ s = rw (rest, drop-drop n at s, x) in
+          let same : q ≡ M.Mark (markCode (taken .value)) n = taken .same in
           let z : line + i′ ≡ suc (line + i) = omega arith in
           record {
-            bs = g .bs ++ (taken .answer ∷ []);
-            many = rw (length-append (g .bs) (taken .answer ∷ [])) (omega (arith, g .many));
-            few = omega arith;
-            held = column-more markCode 32 marks (g .bs) (taken .answer) i b (g .held) (g .many) (omega arith) (taken .mark ∙ mark-code (taken .answer));
-            within = omega (arith, fits);
-            same = g .same
-                ∙ ap (before (g .bs)) m
-                ∙ each-more _ (named (getD names j 0)) (drop (i + 1) ns) (line + i) t (taken .answer) (suc (line + i)) (drop n t) (g .bs) (taken .is (line + i))
-                ∙ rw (o, z, y);
+            bs = g .bs ++ (taken .value ∷ []);
+            part = part-on (g .part) _ here t rest (taken .value) n at′ i′ (line + i′) (taken .within) (rw z (taken .reads (line + i))) x y;
+            held = column-more markCode 32 marks (g .bs) (taken .value) i b (g .held) (g .part .many) (omega arith) (cc);
           }
 
 pub ruleset marking = (marks-start, marks-done, marks-bad, marks-room, marks-more)

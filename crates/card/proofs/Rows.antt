@@ -1,28 +1,31 @@
 -- Tables with one row more, and a reader for each member of a list: what is still to be read gives the whole.
-use Prim.Native.Nat.{ℕ, zero, suc, _+_, _-_, _≤_, _<_}
+use Prim.Native.Nat.{ℕ, zero, suc, _+_, _≤_, _<_}
 use mathlib.Core.Path.{_≡_, refl, sym, _∙_, ap}
-use mathlib.Core.List.{List, [], _∷_, _++_, map, map-append, append-nil}
+use mathlib.Core.List.{List, [], _∷_, _++_, map, map-append}
 use native.Mathlib.Omega.{arith}
 use native.Mathlib.Numerals.{add-one}
-use lib.ListN.{length, take, drop, getD, set, replicate, length-map, length-append, List·getD-map}
-use lib.Seq.{drop-cons, append-snoc, set-at, getD-take, length-take-le}
-use Rattle.meaning.specs.Reading.{Got, got, wrong, Reader, after, each}
+use lib.ListN.{length, take, drop, getD, set, replicate, length-map, List·getD-map}
+use lib.Seq.{drop-cons, getD-take, length-take-le}
+use Rattle.meaning.specs.Reading.{Got, wrong, Reader}
 use Rattle.meaning.specs.Name.{Name}
 use Rattle.meaning.specs.Number.{Entry}
+use Rattle.theory.specs.Built.{Built}
+use Rattle.theory.specs.Faults.{never-zero}
+use Rattle.theory.specs.Each.{Part, part-end, part-off}
 use Rattle.text.specs.Packed.{named, namedIn}
 use Rattle.number.specs.Answers.{coded}
 use Rattle.tables.specs.Heads.{padded}
 use Rattle.tables.proofs.Padded.{padded-set}
 use Rattle.card.specs.Answers.{valuePlaces}
-use Rattle.card.specs.Parts.{Rows}
+use Rattle.card.specs.Parts.{Gave, Rows}
 
 -- TABLES
-map-drop : {A B : Type 0} (f : A → B) (i : ℕ) (xs : List A) → drop i (map f xs) ≡ map f (drop i xs)
+pub map-drop : {A B : Type 0} (f : A → B) (i : ℕ) (xs : List A) → drop i (map f xs) ≡ map f (drop i xs)
 map-drop f zero xs = refl
 map-drop f (suc i) [] = refl
 map-drop f (suc i) (x ∷ xs) = map-drop f i xs
 
-pub padded-more : {A : Type 0} (n : ℕ) (d : A) (xs : List A) (a : A) (i : ℕ) → length xs ≡ i → i < n → set (padded n d xs) i a ≡ padded n d (xs ++ (a ∷ []))
+padded-more : {A : Type 0} (n : ℕ) (d : A) (xs : List A) (a : A) (i : ℕ) → length xs ≡ i → i < n → set (padded n d xs) i a ≡ padded n d (xs ++ (a ∷ []))
 padded-more n d xs a i e h = rw (← e) (padded-set n d xs a (omega arith))
 
 -- a column of a table, whatever it tells of a row
@@ -42,45 +45,38 @@ unfolding valuePlaces
 places-none p [] = refl
 places-none p (n ∷ ns) = refl
 
-module _ (e : Entry) where
-  next-more : (p : ℕ) (ns : List Name) (es : List Entry) → length es < length ns
-      → nextPlace p ns (es ++ (e ∷ [])) ≡ nextPlace p ns es + length (getD ns (length es) []) + 1 + length (e .shown) + 1
-  unfolding nextPlace
-  next-more p [] es h = absurd (omega arith)
-  next-more p (n ∷ ns) [] h = refl
-  next-more p (n ∷ ns) (x ∷ es) h = next-more (p + length n + 1 + length (x .shown) + 1) ns es (omega arith)
+-- one entry more: its place, the next name's, and how many places there were
+place-more : (e : Entry) (p : ℕ) (ns : List Name) (es : List Entry) → length es < length ns → (q : ℕ) → q ≡ nextPlace p ns es + length (getD ns (length es) []) + 1
+    → (valuePlaces p ns (es ++ (e ∷ [])) ≡ valuePlaces p ns es ++ (q ∷ [])) × (nextPlace p ns (es ++ (e ∷ [])) ≡ q + length (e .shown) + 1) × (length (valuePlaces p ns es) ≡ length es)
+unfolding valuePlaces nextPlace
+place-more e p [] es h q z = absurd (omega arith)
+place-more e p (n ∷ ns) [] h q z = (rw z (ap (λ r. (p + length n + 1) ∷ r) (places-none _ ns)), rw z, refl)
+place-more e p (n ∷ ns) (x ∷ es) h q z = let (a, b, c) = place-more e _ ns es (omega arith) q z in (ap (λ r. (p + length n + 1) ∷ r) a, b, ap suc c)
 
-  places-more : (p : ℕ) (ns : List Name) (es : List Entry) → length es < length ns
-      → valuePlaces p ns (es ++ (e ∷ [])) ≡ valuePlaces p ns es ++ ((nextPlace p ns es + length (getD ns (length es) []) + 1) ∷ [])
-  unfolding valuePlaces nextPlace
-  places-more p [] es h = absurd (omega arith)
-  places-more p (n ∷ ns) [] h = ap (λ r. (p + length n + 1) ∷ r) (places-none _ ns)
-  places-more p (n ∷ ns) (x ∷ es) h = ap (λ r. (p + length n + 1) ∷ r) (places-more (p + length n + 1 + length (x .shown) + 1) ns es (omega arith))
+-- the tables hold these entries, and the next name stands at `at`
+pub record Laid (p : ℕ) (ns : List Name) (values starts lengths : List ℕ) (es : List Entry) (at : ℕ) : Type 0 where
+  pub rows : Rows p ns values starts lengths es
+  pub next : at ≡ nextPlace p ns es
 
-pub places-length : (p : ℕ) (ns : List Name) (es : List Entry) → length es ≤ length ns → length (valuePlaces p ns es) ≡ length es
-unfolding valuePlaces
-places-length p [] [] h = refl
-places-length p [] (e ∷ es) h = absurd (omega arith)
-places-length p (n ∷ ns) [] h = refl
-places-length p (n ∷ ns) (e ∷ es) h = ap suc (places-length _ ns es (omega arith))
-
-pub rows-none : (p : ℕ) (ns : List Name) → Rows p ns (replicate 16 0) (replicate 16 0) (replicate 16 0) []
-unfolding padded
-rows-none p ns = record { coded = refl; placed = rw (places-none p ns); sized = refl }
+pub laid-none : (p : ℕ) (ns : List Name) → Laid p ns (replicate 16 0) (replicate 16 0) (replicate 16 0) [] p
+unfolding padded nextPlace
+laid-none p ns = record { rows = record { coded = refl; placed = rw (places-none p ns); sized = refl }; next = refl }
 
 -- one entry more: the name at its place, value and length of its text
-module _ (p : ℕ) (ns : List Name) (values starts lengths : List ℕ) (es : List Entry) (i : ℕ) (r : Rows p ns values starts lengths es)
-    (many : length es ≡ i) (room : i < 16) (due : i < length ns) (e : Entry) (v q k : ℕ) (value : v ≡ coded (e .value)) (size : k ≡ length (e .shown))
-    (place : q ≡ nextPlace p ns es + length (getD ns i []) + 1) where
-  pub rows-more : Rows p ns (set values i v) (set starts i q) (set lengths i k) (es ++ (e ∷ []))
-  rows-more = record {
-    coded = column-more (λ (e : Entry). coded (e .value)) 16 values es e i v (r .coded) many room value;
-    placed = rw (r .placed, place) (padded-more 16 0 (valuePlaces p ns es) _ i (places-length p ns es (omega arith) ∙ many) room ∙ rw (← many, places-more e p ns es (omega arith)));
-    sized = column-more (λ (e : Entry). length (e .shown)) 16 lengths es e i k (r .sized) many room size;
-  }
-
-  pub place-more : (j : ℕ) → j ≡ q + k + 1 → j ≡ nextPlace p ns (es ++ (e ∷ []))
-  place-more j z = rw (next-more e p ns es (omega arith)) (omega (arith, ap (λ m. length (getD ns m [])) many))
+pub laid-more : {p : ℕ} {ns : List Name} {values starts lengths : List ℕ} {es : List Entry} {at : ℕ} → Laid p ns values starts lengths es at
+    → (i : ℕ) → length es ≡ i → i < 16 → i < length ns → (e : Entry) (v q k j : ℕ) → v ≡ coded (e .value) → k ≡ length (e .shown)
+    → q ≡ at + length (getD ns i []) + 1 → j ≡ q + k + 1 → Laid p ns (set values i v) (set starts i q) (set lengths i k) (es ++ (e ∷ [])) j
+laid-more {p} {ns} {values} {starts} {lengths} {es} {at} g i many room due e v q k j value size place z =
+    let here : length (getD ns (length es) []) ≡ length (getD ns i []) = rw many in
+    let (more, next, long) = place-more e p ns es (omega arith) q (omega (arith, g .next)) in
+    record {
+      rows = record {
+        coded = column-more (λ (e : Entry). coded (e .value)) 16 values es e i v (g .rows .coded) many room value;
+        placed = rw (g .rows .placed, more) (padded-more 16 0 (valuePlaces p ns es) q i (long ∙ many) room);
+        sized = column-more (λ (e : Entry). length (e .shown)) 16 lengths es e i k (g .rows .sized) many room size;
+      };
+      next = rw next (omega arith);
+    }
 
 -- the names from place i on
 pub names-cons : (names : List ℕ) (count i : ℕ) → i < count → count ≤ length names
@@ -94,35 +90,15 @@ names-length names count h = length-map (take count names) named ∙ length-take
 
 pub names-at : (names : List ℕ) (i : ℕ) → getD (map named names) i [] ≡ named (getD names i 0)
 unfolding named namedIn
-names-at names i = named-none ∙ List·getD-map named names i 0
-  where
-    named-none : getD (map named names) i [] ≡ getD (map named names) i (named 0)
-    named-none = refl
+names-at names i = List·getD-map named names i 0
 
--- A READER FOR EACH
-module _ {A : Type 0} where
-  -- what was read before, and what is still to be read
-  abbrev pub before : List A → Got (List A) → Got (List A)
-  before xs (got ys l t) = got (xs ++ ys) l t
-  before xs (wrong k l) = wrong k l
+-- WHAT THE READER FOR EACH MEMBER OF A LIST GAVE, of whom some are read: all of them, or the refusal of the next
+module _ {A B : Type 0} {P : List A → Type 0} {r : B → Reader A} {bs : List B} {x : Got (List A)} {s : List ℕ} {l at i : ℕ} {xs : List A} (part : Part r bs x s l at i xs) (top : ℕ) where
+  pub gave-end : length bs ≤ i → P xs → (line : ℕ) → line ≡ l → line ≤ top → Gave P s top 0 line at x
+  gave-end h p line z low = record { within = part .within; low = low; good = λ _. (xs, p, rw z (part-end part h)); bad = λ n. absurd (n refl) }
 
-  pub before-none : (g : Got (List A)) → g ≡ before [] g
-  before-none (got ys l t) = refl
-  before-none (wrong k l) = refl
-
-  before-more : (xs : List A) (a : A) (g : Got (List A)) → before xs (after g (λ r l s. got (a ∷ r) l s)) ≡ before (xs ++ (a ∷ [])) g
-  before-more xs a (got ys l t) = ap (λ r. got r l t) (sym (append-snoc xs a ys))
-  before-more xs a (wrong k l) = refl
-
-module _ {A B : Type 0} (r : B → Reader A) (b : B) (bs : List B) (l : ℕ) (t : List ℕ) where
-  pub each-wrong : (k m : ℕ) (xs : List A) → r b l t ≡ wrong k m → before xs (each r (b ∷ bs) l t) ≡ wrong k m
-  unfolding each
-  each-wrong k m xs e = rw e
-
-  pub each-more : (a : A) (m : ℕ) (u : List ℕ) (xs : List A) → r b l t ≡ got a m u → before xs (each r (b ∷ bs) l t) ≡ before (xs ++ (a ∷ [])) (each r bs m u)
-  unfolding each
-  each-more a m u xs e = rw e (before-more xs a (each r bs m u))
-
-pub each-over : {A B : Type 0} (r : B → Reader A) (l : ℕ) (t : List ℕ) (xs : List A) → before xs (each r [] l t) ≡ got xs l t
-unfolding each
-each-over r l t xs = ap (λ y. got y l t) (append-nil xs)
+  pub gave-off : (b : B) → drop i bs ≡ b ∷ drop (i + 1) bs → Built (r b) → (t : List ℕ) → t ≡ drop at s → (k : ℕ) → r b l t ≡ wrong k l → l ≤ top
+      → (number line place : ℕ) → number ≡ k → line ≡ l → place ≡ 0 → Gave P s top number line place x
+  gave-off b next built t rest k e low number line place y z w =
+      let n : k ≡ 0 → ⊥ = never-zero built l t k l e in
+      record { within = omega arith; low = omega arith; good = λ o. absurd (n (sym y ∙ o)); bad = λ _. part-off part b next t rest k l e ∙ rw (y, z) }

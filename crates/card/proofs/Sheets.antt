@@ -1,14 +1,15 @@
 -- The names of the sheet for which tables stand.
 use Prim.Native.Nat.{ℕ, zero, suc, _+_, _≤_}
-use mathlib.Core.Path.{_≡_, refl, sym, _∙_, ap}
-use mathlib.Core.List.{List, [], _∷_, _++_, map}
+use mathlib.Core.Path.{_≡_, refl, sym, _∙_}
+use mathlib.Core.List.{List, _++_, map, map-append}
 use native.Mathlib.Omega.{arith}
+use native.Mathlib.Nat.{add-zero, zero-add}
 use lib.ListN.{length, take, drop, getD, length-map}
 use lib.Seq.{drop-cons}
 use Rattle.meaning.specs.Text.{from}
 use Rattle.meaning.specs.Name.{Name}
 use Rattle.meaning.specs.Sheet.{Status, statuses, statusNames}
-use Rattle.theory.specs.Lists.{from-length}
+use Rattle.theory.specs.Lists.{from-length, from-both}
 use Rattle.text.specs.Packed.{named}
 use Rattle.tables.specs.declared.Heads.{Heads}
 use Rattle.tables.specs.Heads.{namesAt, statusAt, headsOf}
@@ -34,23 +35,13 @@ names-from xs a f g h (suc n) b w =
     let ih : map g (map f (from (suc b) n)) ≡ map named (take n (drop (suc (a + b)) xs)) = rw z at (names-from xs a f g h n (suc b) (omega arith)) in
     rw (drop-cons xs (a + b) 0 (omega arith), h b, ih)
 
-from-more : (f : ℕ → Status) (m n b : ℕ) → map f (from b n) ++ map f (from (b + n) m) ≡ map f (from b (n + m))
-unfolding from
-from-more f m zero b = let z : b + 0 ≡ b = omega arith in let y : 0 + m ≡ m = omega arith in rw (z, y)
-from-more f m (suc n) b =
-    let z : b + suc n ≡ suc b + n = omega arith in
-    let y : suc n + m ≡ suc (n + m) = omega arith in
-    rw (z, y) (ap (λ r. f b ∷ r) (from-more f m n (suc b)))
-
 pub statuses-are : (h : Heads) → h .fields + h .events + (h .stages + h .miles) ≤ length (h .names)
     → statusNames (statuses (headsOf h)) ≡ map named (take (h .stages + h .miles) (drop (h .fields + h .events) (h .names)))
 unfolding headsOf statuses statusNames
 statuses-are h w =
-    let z : h .fields + h .events + 0 ≡ h .fields + h .events = omega arith in
-    let y : 0 + h .stages ≡ h .stages = omega arith in
-    let e : map (statusAt h) (from 0 (h .stages)) ++ map (statusAt h) (from (h .stages) (h .miles)) ≡ map (statusAt h) (from 0 (h .stages + h .miles))
-    = rw y at (from-more (statusAt h) (h .miles) (h .stages) 0) in
-    rw e (rw z at (names-from (h .names) (h .fields + h .events) (statusAt h) (λ (s : Status). s .name) (λ x. refl) (h .stages + h .miles) 0 (omega arith)))
+    let both : from 0 (h .stages + h .miles) ≡ from 0 (h .stages) ++ from (h .stages) (h .miles) = rw zero-add at (from-both 0 (h .stages) (h .miles)) in
+    rw (← map-append (statusAt h) (from 0 (h .stages)), ← both)
+    (rw add-zero at (names-from (h .names) (h .fields + h .events) (statusAt h) (λ (s : Status). s .name) (λ x. refl) (h .stages + h .miles) 0 (omega arith)))
 
 pub stages-length : (h : Heads) → length (headsOf h .stages) ≡ h .stages
 unfolding headsOf

@@ -1,6 +1,6 @@
 -- What the code answers for a card that the meaning reads.
 use Prim.Native.Nat.{ℕ, _+_}
-use mathlib.Core.Bool.{Bool, true, false}
+use mathlib.Core.Bool.{Bool, cond}
 use mathlib.Core.List.{List, [], _∷_, map}
 use lib.ListN.{length, replicate}
 use Rattle.meaning.specs.Text.{text}
@@ -16,8 +16,7 @@ use Rattle.card.specs.declared.CardRead.{CardRead}
 
 -- Kleene's value of a status: 0 for false, 2 for true
 abbrev pub markCode : Bool → ℕ
-markCode false = 0
-markCode true = 2
+markCode b = cond b 2 0
 
 -- where the value texts stand, each behind its name and `=`, and one byte (LF or a space) before the next name; p is the place of the first name
 unfoldable pub valuePlaces : ℕ → List Name → List Entry → List ℕ

@@ -1,5 +1,5 @@
 -- What the parts of the readers answer: the rows of a table, the stage under a parent that is no, whole cards.
-use Prim.Native.Nat.{ℕ, _+_, _-_, _≤_}
+use Prim.Native.Nat.{ℕ, _+_, _≤_}
 use mathlib.Core.Path.{_≡_}
 use mathlib.Core.Bool.{Bool}
 use mathlib.Core.List.{List, map}

@@ -9,21 +9,10 @@ use lib.Seq.{take-append-seam, drop-append-seam}
 use Rattle.meaning.specs.Text.{joined, from}
 use Rattle.meaning.specs.Number.{Value}
 use Rattle.meaning.specs.Outlook.{choices}
-use Rattle.theory.specs.Lists.{from-in, joined-one, map-same, joined-same, joined-map, map-joined}
+use Rattle.theory.specs.Lists.{from-in, from-both, joined-one, map-same, joined-same, joined-map, map-joined}
 use Rattle.combos.specs.Numbered.{split, sum, product, size, strung, choice}
 
--- numbers one after another
-from-both : (a n m : ℕ) → from a (n + m) ≡ from a n ++ from (a + n) m
-unfolding from
-from-both a zero m =
-    let e : 0 + m ≡ m = omega arith in
-    let z : a + 0 ≡ a = omega arith in
-    rw (e, z)
-from-both a (suc n) m =
-    let e : suc n + m ≡ suc (n + m) = omega arith in
-    let z : suc a + n ≡ a + suc n = omega arith in
-    rw e (ap (λ l. a ∷ l) (from-both (suc a) n m ∙ ap (λ k. from (suc a) n ++ from k m) z))
-
+-- numbers one after another, further on
 from-later : (a b n : ℕ) → from (a + b) n ≡ map (λ k. a + k) (from b n)
 unfolding from
 from-later a b zero = refl

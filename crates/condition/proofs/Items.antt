@@ -10,19 +10,22 @@ use lib.Seq.{sets, drop-drop}
 use Rattle.meaning.specs.Text.{text, begins}
 use Rattle.meaning.specs.Reading.{Got, got, wrong, Reader, after, give, notEnded, stands, due}
 use Rattle.meaning.specs.Name.{Name}
-use Rattle.meaning.specs.Condition.{Cond, Item, leavesI}
+use Rattle.meaning.specs.Condition.{Leaf, Cond, Item, leavesC, leavesI}
 use Rattle.meaning.specs.ReadCondition.{readLeaf, readCond, itemWith, readItem, condition}
 use Rattle.theory.specs.Lists.{take-sets}
 use Rattle.theory.specs.Built.{due-built, cond-fault}
 use Rattle.theory.specs.Spelling.{due-spells}
+use Rattle.theory.specs.Answered.{told-ends}
 use Rattle.theory.specs.Told.{Told, Any, inline-told, spelled-took, notEnded-none, notEnded-some}
 use Rattle.text.proofs.Callers.{begins-fits, stands-here, stands-not}
 use Rattle.verdict.specs.Flat.{wordsC, wordsI, words}
 use Rattle.condition.specs.Answers.{asCondition, stored}
-use Rattle.condition.specs.Parts.{Kind, leafItems, items, conditions, asPart, Left, Gives, Within, further, closing, closedBy}
-use Rattle.condition.specs.declared.Place.{Place}
-use Rattle.condition.specs.declared.CondRead.{CondRead}
-use Rattle.condition.specs.declared.CondRead.the-variants.{At, Refused}
+use Rattle.condition.specs.Parts.{items, conditions, Gives}
+use Rattle.item.specs.declared.Place.{Place}
+use Rattle.item.specs.declared.CondRead.{CondRead}
+use Rattle.item.specs.declared.CondRead.the-variants.{At, Refused}
+use Rattle.item.specs.Answers.{asPlace, asItem, itemSpace, cleared, Stored, Within, further, closing, closedBy}
+use Rattle.item.proofs.Callers.{placeKind, place-within, place-further, stored-read, stored-cleared}
 use Rattle.condition.proofs.Kept.{Tells, items-tell, conditions-tell, Found, given-found, given-refused, gives-found, gives-refused}
 
 -- the cases of an item's reader
@@ -56,20 +59,11 @@ module _ (st fd : List Name) (l k : ℕ) (s : List ℕ) where
       unfolding readItem itemWith
       case-group d c = rw (notEnded-some k s h, stands-not (text "not ") k s false (sym b) refl, stands-here (text "(") k s true (sym c) refl)
 
--- what a part took behind the first n bytes lies in the text
-part-within : (K : Kind) → Tells K → (n : ℕ) (s v : List ℕ) (top leaves : ℕ) (was is : List ℕ) (r : CondRead) → Gives K v top leaves r was is → v ≡ drop n s → n ≤ length s → Within s n r
-part-within K tells n s v top leaves was is r g ev h = go r refl
-  where
-    go : (u : CondRead) → r ≡ u → Within s n u
-    go (Refused c) e = tt
-    go (At q) e =
-        let f = given-found K v top leaves was is tells r g q e in
-        let w : q .bytes ≤ length s - n = rw (← length-drop n s, ← ev) (f .within) in
-        omega arith
-
+-- a group's condition lies behind its parenthesis
 pub item-group-within : (st fd : List Name) (d : ℕ) (neg : Bool) (s v : List ℕ) (top leaves : ℕ) (was is : List ℕ) (r : CondRead)
     → Gives (conditions st fd neg d) v top leaves r was is → v ≡ drop 1 s → (length s ≡ 0 → ⊥) → Within s 1 r
-item-group-within st fd d neg s v top leaves was is r g ev h = part-within (conditions st fd neg d) (conditions-tell st fd neg d) 1 s v top leaves was is r g ev (omega arith)
+unfolding conditions
+item-group-within st fd d neg s v top leaves was is r g ev h = place-within (wordsC neg false) leavesC 1 s v ev (omega arith) (told-ends (conditions-tell st fd neg d leaves v)) top leaves r (g .answer)
 
 -- what an item gives
 module _ (st fd : List Name) (d : ℕ) (neg : Bool) (s : List ℕ) (top leaves : ℕ) (was : List ℕ) where
@@ -87,29 +81,29 @@ module _ (st fd : List Name) (d : ℕ) (neg : Bool) (s : List ℕ) (top leaves :
     -- `not ` and an item
     module _ (tb : b ≡ true) (z : d ≡ 0 → ⊥) (v : List ℕ) (ev : v ≡ drop 4 s) (r : CondRead) (is : List ℕ) (g : Gives (items st fd (not neg) (d - 1)) v top leaves r was is) where
       pub item-not-within : Within s 4 r
-      item-not-within = part-within (items st fd (not neg) (d - 1)) (items-tell st fd (not neg) (d - 1)) 4 s v top leaves was is r g ev (begins-fits (text "not ") s (sym eb ∙ tb))
+      unfolding items
+      item-not-within = place-within (wordsI (not neg)) leavesI 4 s v ev (begins-fits (text "not ") s (sym eb ∙ tb)) (told-ends (items-tell st fd (not neg) (d - 1) leaves v)) top leaves r (g .answer)
 
       pub item-not : (u : CondRead) → u ≡ further 4 r → Gives (items st fd neg d) s top leaves u was is
       unfolding items wordsI leavesI
-      item-not u eu = rw eu (go r refl item-not-within)
+      item-not u eu = go (readItem st fd (d - 1) leaves 0 v) (eu ∙ place-further (wordsI (not neg)) leavesI 4 s v ev (begins-fits (text "not ") s (sym eb ∙ tb)) (told-ends (items-tell st fd (not neg) (d - 1) leaves v)) top leaves r (g .answer)) (g .space) reads
         where
           reads : readItem st fd d leaves 0 s ≡ after (readItem st fd (d - 1) leaves 0 v) (λ i. give (Item.neg i))
           reads = let k : d ≡ suc (d - 1) = omega arith in ap (λ (j : ℕ). readItem st fd j leaves 0 s) k ∙ case-not st fd leaves 0 s h (d - 1) (sym eb ∙ tb) ∙ rw ev
 
-          go : (x : CondRead) → r ≡ x → Within s 4 r → Gives (items st fd neg d) s top leaves (further 4 x) was is
-          go (Refused c) e w =
-              let f = given-refused (items st fd (not neg) (d - 1)) v top leaves was is (items-tell st fd (not neg) (d - 1)) r g c e in
-              gives-refused (items st fd neg d) s top leaves was is c (reads ∙ rw (f .0 0)) (f .1)
-          go (At q) e w =
-              let f = given-found (items st fd (not neg) (d - 1)) v top leaves was is (items-tell st fd (not neg) (d - 1)) r g q e in
-              let x : drop (q .bytes) v ≡ drop (4 + q .bytes) s = rw (ev, drop-drop (q .bytes) 4 s) in
-              gives-found (items st fd neg d) s top leaves was is (Item.neg (f .value)) (4 + q .bytes) (rw e at w)
-              (reads ∙ rw (f .reads 0, x)) (record { bytes = 4 + q .bytes; top = q .top; leaves = q .leaves }) refl (f .words) (f .counts) (f .space)
+          go : (x : Got Item) → u ≡ asPlace (wordsI (not neg)) leavesI s top leaves x → Stored (wordsI (not neg)) was is top x → readItem st fd d leaves 0 s ≡ after x (λ i. give (Item.neg i)) → Gives (items st fd neg d) s top leaves u was is
+          go (got i l t) a p e = record { answer = a ∙ rw e; space = rw e p }
+          go (wrong n l) a p e = record { answer = a ∙ rw e; space = rw e p }
 
     module _ (tb : b ≡ false) (c : Bool) (ec : c ≡ begins (text "(") s) where
-      pub item-leaf : not c ≡ true → (r : CondRead) (is : List ℕ) → Gives (leafItems st fd neg) s top leaves r was is → Gives (items st fd neg d) s top leaves r was is
-      unfolding items leafItems
-      item-leaf tc r is g = let e = case-leaf st fd leaves 0 s h (sym eb ∙ tb) d (sym ec ∙ not-true c tc) in record { answer = rw e (g .answer); space = rw e (g .space) }
+      pub item-leaf : not c ≡ true → (r : CondRead) (is : List ℕ) → r ≡ asItem neg s top leaves (readLeaf st fd leaves 0 s) → is ≡ itemSpace neg was top (readLeaf st fd leaves 0 s)
+          → Gives (items st fd neg d) s top leaves r was is
+      unfolding items wordsI leavesI
+      item-leaf tc r is a p = go (readLeaf st fd leaves 0 s) a p (case-leaf st fd leaves 0 s h (sym eb ∙ tb) d (sym ec ∙ not-true c tc))
+        where
+          go : (g : Got Leaf) → r ≡ asItem neg s top leaves g → is ≡ itemSpace neg was top g → readItem st fd d leaves 0 s ≡ after g (λ x. give (Item.leaf x)) → Gives (items st fd neg d) s top leaves r was is
+          go (got x l t) a p e = record { answer = a ∙ rw e; space = rw e p }
+          go (wrong n l) a p e = record { answer = a ∙ rw e; space = rw e (ap (take top) p) }
 
       module _ (tc : not c ≡ false) where
         pub item-group-deep : d ≡ 0 → Gives (items st fd neg d) s top leaves (Refused 5) was was
@@ -145,26 +139,14 @@ module _ (st fd : List Name) (d : ℕ) (neg : Bool) (s : List ℕ) (top leaves :
 module _ (st fd : List Name) (s : List ℕ) (top leaves : ℕ) (was is : List ℕ) (r : CondRead) (g : Gives (conditions st fd false 8) s top leaves r was is) where
   pub whole-answer : r ≡ asCondition s top leaves (condition st fd leaves 0 s)
   unfolding conditions condition words
-  whole-answer = g .answer ∙ same (condition st fd leaves 0 s)
-    where
-      same : (x : Got Cond) → asPart (conditions st fd false 8) s top leaves x ≡ asCondition s top leaves x
-      same (got c l t) = refl
-      same (wrong n l) = refl
+  whole-answer = g .answer
 
   pub whole-stored : (q : Place) → r ≡ At q → is ≡ stored was top (condition st fd leaves 0 s)
   unfolding conditions condition words
-  whole-stored q e = go (condition st fd leaves 0 s) (g .answer) (g .space)
-    where
-      go : (x : Got Cond) → r ≡ asPart (conditions st fd false 8) s top leaves x → Left (conditions st fd false 8) was is top x → is ≡ stored was top x
-      go (got c l t) a h = h
-      go (wrong n l) a h = let z : _≡_ {A = ℕ} 0 1 = cc in absurd (omega arith)
+  whole-stored q e = stored-read (placeKind words leavesC top leaves) words s was is top (condition st fd leaves 0 s) r (g .answer) (g .space) (q .bytes) (ap (placeKind words leavesC top leaves .size) e)
 
-  pub whole-cleared : (k : ℕ) → r ≡ Refused k → length is ≡ length was → (end : List ℕ) → end ≡ take top is ++ replicate (length is - top) 0 → end ≡ stored was top (condition st fd leaves 0 s)
-  unfolding conditions condition
-  whole-cleared k e l end h = go (condition st fd leaves 0 s) (g .answer) (g .space)
-    where
-      go : (x : Got Cond) → r ≡ asPart (conditions st fd false 8) s top leaves x → Left (conditions st fd false 8) was is top x → end ≡ stored was top x
-      go (got c l t) a w = let z : _≡_ {A = ℕ} 0 1 = cc in absurd (omega arith)
-      go (wrong n i) a w = h ∙ rw (w, l)
+  pub whole-cleared : (k : ℕ) → r ≡ Refused k → length is ≡ length was → (end : List ℕ) → end ≡ cleared is top → end ≡ stored was top (condition st fd leaves 0 s)
+  unfolding conditions condition words
+  whole-cleared k e = stored-cleared (placeKind words leavesC top leaves) words s was is top (condition st fd leaves 0 s) r (g .answer) (g .space) k (ap (placeKind words leavesC top leaves .size) e)
 
 pub ruleset wholes = (whole-answer, whole-stored, whole-cleared)

@@ -10,12 +10,14 @@ use Rattle.meaning.specs.Reading.{Got, got, wrong}
 use Rattle.meaning.specs.Name.{Name}
 use Rattle.meaning.specs.Condition.{Cond, And, Item, leavesC, leavesA, leavesI}
 use Rattle.theory.specs.Told.{Told, took, told-weaker}
+use Rattle.theory.specs.Answered.{told-ends}
 use Rattle.theory.specs.Conditions.{told-item, told-and, told-cond}
 use Rattle.verdict.specs.Flat.{bit, join, wordsC, wordsA, wordsI}
 use Rattle.condition.specs.Parts.{Kind, items, andLists, conditions, Gives}
-use Rattle.condition.specs.declared.Place.{Place}
-use Rattle.condition.specs.declared.CondRead.{CondRead}
-use Rattle.condition.specs.declared.CondRead.the-variants.{At, Refused}
+use Rattle.item.specs.declared.Place.{Place}
+use Rattle.item.specs.declared.CondRead.{CondRead}
+use Rattle.item.specs.declared.CondRead.the-variants.{At, Refused}
+use Rattle.item.proofs.Callers.{placed, unplaced}
 
 pub length-join : (j : Bool) (w : ℕ) → length (join j w) ≡ bit j
 length-join true w = refl
@@ -77,30 +79,14 @@ pub record Found (K : Kind) (s : List ℕ) (top leaves : ℕ) (q : Place) (was i
 module _ (K : Kind) (s : List ℕ) (top leaves : ℕ) (was is : List ℕ) where
   module _ (tells : Tells K) (r : CondRead) (g : Gives K s top leaves r was is) where
     pub given-found : (q : Place) → r ≡ At q → Found K s top leaves q was is
-    given-found q z = go (tells leaves s)
-      where
-        go : Told (Part K leaves) (K .read leaves) s → Found K s top leaves q was is
-        go (Told.faulty k e) =
-            let a : r ≡ Refused k = g .answer ∙ rw (e 0) in
-            let y : _≡_ {A = ℕ} 0 1 = cc in
-            absurd (omega arith)
-        go (Told.found t n h m e) =
-            let a : r ≡ At (record { bytes = n; top = top + length (K .words t); leaves = leaves + length (K .leaves t) }) = g .answer ∙ rw (e 0, took s n m) in
-            let y : q ≡ record { bytes = n; top = top + length (K .words t); leaves = leaves + length (K .leaves t) } = cc in
-            rw y (record { value = t; holds = h; reads = e; within = m; words = refl; counts = refl; space = rw (e 0) at (g .space) })
+    given-found q z =
+        let f = placed (K .words) (K .leaves) (told-ends (tells leaves s)) top leaves r (g .answer) q z in
+        record { value = f .value; holds = f .holds; reads = f .reads; within = f .within; words = f .top-is; counts = f .leaves-is; space = rw (f .reads 0) at (g .space) }
 
     pub given-refused : (k : ℕ) → r ≡ Refused k → ((l : ℕ) → K .read leaves l s ≡ wrong k l) × (take top is ≡ take top was)
-    given-refused k z = go (tells leaves s)
-      where
-        go : Told (Part K leaves) (K .read leaves) s → ((l : ℕ) → K .read leaves l s ≡ wrong k l) × (take top is ≡ take top was)
-        go (Told.found t n h m e) =
-            let a : r ≡ At (record { bytes = n; top = top + length (K .words t); leaves = leaves + length (K .leaves t) }) = g .answer ∙ rw (e 0, took s n m) in
-            let y : _≡_ {A = ℕ} 0 1 = cc in
-            absurd (omega arith)
-        go (Told.faulty c e) =
-            let a : r ≡ Refused c = g .answer ∙ rw (e 0) in
-            let y : c ≡ k = cc in
-            (λ l. e l ∙ ap (λ (i : ℕ). wrong i l) y, rw (e 0) at (g .space))
+    given-refused k z =
+        let e = unplaced (K .words) (K .leaves) (told-ends (tells leaves s)) top leaves r (g .answer) k z in
+        (e, rw (e 0) at (g .space))
 
   -- from what was read to the answer
   pub gives-found : (t : K .T) (n : ℕ) → n ≤ length s → K .read leaves 0 s ≡ got t 0 (drop n s) → (q : Place) → q .bytes ≡ n → q .top ≡ top + length (K .words t) → q .leaves ≡ leaves + length (K .leaves t)

@@ -20,11 +20,11 @@ use Rattle.theory.specs.Told.{Told, Any, took, told-weaker}
 use Rattle.theory.specs.Conditions.{told-and, told-cond}
 use Rattle.text.proofs.Callers.{begins-fits, stands-here, stands-not}
 use Rattle.verdict.specs.Flat.{bit, join, wordsC, wordsA}
-use Rattle.condition.specs.Answers.{Ready}
-use Rattle.condition.specs.Parts.{Kind, items, andLists, conditions, Gives, further}
-use Rattle.condition.specs.declared.Place.{Place}
-use Rattle.condition.specs.declared.CondRead.{CondRead}
-use Rattle.condition.specs.declared.CondRead.the-variants.{At, Refused}
+use Rattle.item.specs.declared.Place.{Place}
+use Rattle.item.specs.declared.CondRead.{CondRead}
+use Rattle.item.specs.declared.CondRead.the-variants.{At, Refused}
+use Rattle.item.specs.Answers.{Ready, further}
+use Rattle.condition.specs.Parts.{Kind, items, andLists, conditions, Gives}
 use Rattle.condition.proofs.Kept.{length-join, bit-small, Part, Tells, items-tell, ands-tell, Found, given-found, given-refused, gives-found, gives-refused}
 
 -- lists W of members E, joined by w in the text and by c in the words: words joined to what stands before or not, and the reader of at most so many members
@@ -246,3 +246,7 @@ pub list-less : (w s : List ℕ) (at n : ℕ) (r : CondRead) (q : Place) (b : Bo
 list-less w s at n r q b er eb h en m em long =
     let z : length w ≤ length s - n = rw (← length-drop n s) (begins-fits w (drop n s) (sym eb ∙ not-false b h)) in
     omega arith
+
+-- whether a joining text stands at a place
+pub stands-at : (k v s : List ℕ) (at : ℕ) (b : Bool) → v ≡ drop at s → b ≡ begins k v → b ≡ begins k (drop at s)
+stands-at k v s at b e h = h ∙ rw e

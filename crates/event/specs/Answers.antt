@@ -1,5 +1,5 @@
 -- What the code answers for an event line that the meaning reads.
-use Prim.Native.Nat.{ℕ, _+_}
+use Prim.Native.Nat.{_+_}
 use mathlib.Core.List.{[], map}
 use lib.ListN.{length, getD, replicate}
 use Rattle.meaning.specs.Refusal.{Answer, taken, refused}

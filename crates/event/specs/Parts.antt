@@ -22,7 +22,7 @@ knownFault (K.At i n) = 0
 knownFault (K.Refused k) = k
 
 -- what stands behind the last pair of an event line
-unfoldable pub eventEnd : Reader (Unit {0})
+abbrev pub eventEnd : Reader (Unit {0})
 eventEnd l s = after (lineEnd LINE l s) (λ _. paperEnd)
 
 -- the pairs of an event line, for these fields of the sheet

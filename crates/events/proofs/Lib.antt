@@ -1,6 +1,5 @@
--- The small functions; one event line; the scan over them:
+-- The fields that an event carries; the event lines; the scan of both:
 pub mod Carried
-pub mod EventPieces
 pub mod Events
 pub mod Scan
 -- No second answer fits:

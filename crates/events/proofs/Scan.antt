@@ -1,281 +1,134 @@
 -- The nested scan of event lines and of the fields that they carry: each way out, and on to the next piece or line.
-use Prim.Native.Nat.{ℕ, suc, _+_, _-_, _*_, _<_, _≤_}
-use mathlib.Core.Path.{_≡_, refl, sym, _∙_, ap, subst}
+use Prim.Native.Nat.{ℕ, suc, _+_, _-_, _*_, _^_, _<_, _≤_}
+use mathlib.Core.Path.{_≡_, refl, sym, _∙_, ap}
 use mathlib.Core.Bool.{Bool, true, false, not}
 use mathlib.Core.List.{List, [], _∷_, _++_, map}
-use mathlib.Core.Logic.{⊎-elim}
 use native.Mathlib.Omega.{arith}
-use borrow.Author.Tests.{not-true, not-false, ne-eqb}
-use lib.ListN.{length, take, drop, set, length-append, length-drop}
-use lib.Seq.{drop-drop}
+use borrow.Author.Tests.{not-true, not-false}
+use lib.Dec.{leb}
+use lib.ListN.{length, take, drop, set, length-append}
 use mir.Val.{Fits}
 use mir.Syntax.{w64, w8}
 use Rattle.meaning.specs.Text.{text, begins, joined}
-use Rattle.meaning.specs.Reading.{got, wrong, after}
+use Rattle.meaning.specs.Reading.{after, wrong}
 use Rattle.meaning.specs.Name.{Name, known}
-use Rattle.meaning.specs.Sheet.{Sheet, Event, eventNames}
-use Rattle.meaning.specs.ReadSheet.{carried, eventRow}
-use Rattle.text.specs.Packed.{packed, named}
+use Rattle.meaning.specs.Sheet.{Event}
+use Rattle.meaning.specs.ReadSheet.{carried}
+use Rattle.theory.specs.Answered.{Left}
+use Rattle.theory.specs.Fixed.{left-open, left-closed}
+use Rattle.text.specs.Packed.{named}
 use Rattle.text.specs.declared.Known.{Known}
 use Rattle.text.specs.declared.Known.the-variants as K
-use Rattle.text.proofs.Callers.{begins-fits, line-end-here}
+use Rattle.text.specs.Answers.{asKnown}
 use Rattle.tables.specs.declared.Heads.{Heads}
-use Rattle.tables.specs.Heads.{allNames}
 use Rattle.fields.specs.declared.HeadsRead.{HeadsRead}
-use Rattle.events.specs.declared.Fault.{Fault}
-use Rattle.events.specs.declared.EventName.{EventName}
-use Rattle.events.specs.declared.EventName.the-variants as E
-use Rattle.events.specs.Answers.{told, leftWith, knownFault}
-use Rattle.events.specs.Parts.{withEvents, eventsPart}
-use Rattle.fields.specs.Held.{nextLine, carriedRow, Reads}
-use Rattle.events.specs.Held.{NoStatuses, NameIs, EventNameRead, FieldIs, FieldRead}
-use Rattle.fields.proofs.Rows.{names-count, names-so-far, fields-known, fields-held, events-held, tabled}
-use Rattle.fields.proofs.Sections.{line-not, reads-wrong, going-over, going-full, going-wrong, going-more}
-use Rattle.events.proofs.EventPieces.{carried-over, carried-next}
-use Rattle.events.proofs.Events.{ending, event-name, event-is, ending-not, ending-here, carrying, cells, cells-none, cells-set, cells-part, names-events, names-event, plain-event, heads-event, Events, events-handed, events-start}
+use Rattle.fields.specs.declared.RowName.{RowName}
+use Rattle.fields.specs.declared.RowName.the-variants as R
+use Rattle.fields.specs.Answers.{leftWith, rowName, told}
+use Rattle.events.specs.Answers.{knownFault, fieldOf}
+use Rattle.events.specs.Parts.{eventsPart}
+use Rattle.fields.specs.Held.{carriedRow, Reads}
+use Rattle.events.specs.Held.{NoStatuses}
+use Rattle.fields.proofs.Small.{told-fault, stands-room}
+use Rattle.fields.proofs.Rows.{fields-known, counted, tabled}
+use Rattle.fields.proofs.Sections.{reads-wrong, next, Begun, going-more, RowTold, going-row}
+use Rattle.events.proofs.Carried.{fields-over, FieldTold, field-told}
+use Rattle.events.proofs.Events.{Events, events-start, ending, tail, rows, cells, carrying, cells-none, cells-set, cells-part, names-event, plain-event, heads-event}
 
--- what is asked of the answer
-abbrev Answer : List ℕ → HeadsRead → Type 0
-Answer s r = Reads (NoStatuses false) s (eventsPart 1 s) r
+-- what is asked of the answer, with the number f on the line l
+abbrev Answer : List ℕ → ℕ → ℕ → ℕ → Heads → Type 0
+Answer s f l at h = Reads (NoStatuses false) s (eventsPart 1 s) (told f l at h)
 
--- the scan left with a fault
-told-wrong : (s : List ℕ) (n l at f : ℕ) (h : Heads) → (n ≡ 0 → ⊥) → eventsPart 1 s ≡ wrong n l → f ≡ n → Answer s (told (record { number = f; line = l }) at h)
-unfolding told
-told-wrong s n l at f h ne e z = reads-wrong n l ne e (rw (z, ne-eqb n 0 ne))
-
--- A LINE
-module _ (s : List ℕ) (h : Heads) (at : ℕ) (i : Events s h at) where
-  abbrev sheet : Sheet
-  sheet = withEvents (i .sheet) (i .going .so)
-
-  abbrev count : ℕ
-  count = h .fields + h .events
-
-  abbrev used : List Name
-  used = i .sheet .fields ++ eventNames (i .going .so)
-
-  pub few-fields : h .fields ≤ 16
-  few-fields = omega (arith, fields-held h sheet (i .going .is), i .going .plain .few-fields)
-
-  pub few-events : h .events ≤ 16
-  few-events = omega (arith, events-held h sheet (i .going .is), i .going .few)
-
-  pub scan-room : Fits w64 count
-  scan-room = omega (arith, few-fields, few-events)
-
-  pub scan-lines : Fits w64 (2 + count)
-  scan-lines = omega (arith, few-fields, few-events)
-
-  numbered : length (allNames sheet) ≡ count
-  numbered = omega (arith, names-count sheet, fields-held h sheet (i .going .is), events-held h sheet (i .going .is))
-
-  line-is : nextLine sheet ≡ 2 + count
-  line-is = omega (arith, numbered)
-
-  wrong-is : (n : ℕ) → eventsPart 1 s ≡ wrong n (nextLine sheet) → eventsPart 1 s ≡ wrong n (2 + count)
-  wrong-is n e = rw (← line-is) e
-
-  module _ (v : List ℕ) (o : EventName) (rest : v ≡ drop at s) (read : EventNameRead (map named (take count (h .names))) (h .events) v o) where
-    name-told : (q : EventName) → o ≡ q → EventNameRead used (h .events) (drop at s) q
-    name-told q e =
-        let u : map named (take count (h .names)) ≡ used = names-so-far h sheet (i .going .is) (i .going .plain) count (sym numbered) ∙ names-events (i .sheet) (i .going .so) in
-        rw (← rest, ← u) (subst (EventNameRead (map named (take count (h .names))) (h .events) v) e read)
-
-    -- the section is left: no event stands, one too many does, or its name is refused
-    pub scan-left : (k : ℕ) → o ≡ E.Left k → (f : ℕ) → f ≡ leftWith o → Answer s (told (record { number = f; line = 2 + count }) at h)
-    unfolding told
-    scan-left k e f g =
-        let z : f ≡ k = g ∙ rw e in
-        let n : h .events ≡ length (i .going .so) = events-held h sheet (i .going .is) in
-        let failed : (eventsPart 1 s ≡ wrong k (nextLine sheet)) → (k ≡ 0 → ⊥) → Answer s (told (record { number = f; line = 2 + count }) at h) = λ x ne. told-wrong s k (2 + count) at f h ne (rw (← line-is) x) z in
-        ⊎-elim (λ x. rw (z, x .0) (going-over (i .going) (NoStatuses false) refl (x .1) (2 + count) (sym line-is)))
-        (⊎-elim (λ x. failed (rw (x .0) (going-full (i .going) (x .1) (omega (arith, i .going .few, x .2)))) (λ y. omega (arith, x .0)))
-        (λ x. failed (going-wrong (i .going) (x .1) (omega (arith, x .2)) k (event-name (i .sheet .fields) (i .going .so) (nextLine sheet) (drop (at + 6) s) k (rw (← drop-drop 6 at s) (x .3 (nextLine sheet))))) (x .0)))
-        (name-told (E.Left k) e)
-
-    module _ (w k : ℕ) (told : o ≡ E.Name w k) where
-      begun : NameIs used (h .events) (drop at s) w k
-      begun = name-told (E.Name w k) told
-
-      fits : at + k ≤ length s
-      fits = omega (arith, begun .within, length-drop at s, i .going .within)
-
-      pub scan-room-2 : Fits w64 (at + k)
-      scan-room-2 = omega (arith, i .going .short, fits)
-
-      got-row : eventRow (i .sheet .fields) (i .going .so) (nextLine sheet) (drop (at + 6) s)
-          ≡ after (carried (i .sheet .fields) (suc (length (i .sheet .fields))) [] (nextLine sheet) (drop (at + k) s)) (ending (begun .name))
-      got-row =
-          event-is (i .sheet .fields) (i .going .so) (nextLine sheet) (drop (at + 6) s) (begun .name) (drop (at + k) s)
-          (rw (← drop-drop 6 at s, ← drop-drop k at s) (begun .reads (nextLine sheet)))
-
--- A LINE THAT HAS BEGUN: the tables `old` and the place `from` at its begin, and its name w
+-- A LINE THAT HAS BEGUN in the tables `old`
 pub record Head (s : List ℕ) (e n line w fields : ℕ) : Type 0 where
   pub old : Heads
   pub from : ℕ
-  pub begun : Events s old from
-  pub stood : begins (text "event=") (drop from s) ≡ true
-  pub room : e < 16
-  pub e-is : e ≡ length (begun .going .so)
-  pub n-is : n ≡ length (allNames (withEvents (begun .sheet) (begun .going .so)))
-  pub line-is : line ≡ 2 + n
-  pub fields-is : fields ≡ length (begun .sheet .fields)
-  pub name : Name
-  pub number : w ≡ packed name
-  pub again : named (packed name) ≡ name
+  pub events : Events s old from
+  pub row : Begun (events .going) n w
+  pub fixed : (e ≡ old .events) × (fields ≡ old .fields) × (line ≡ 2 + n) × (e < 16) × (n < 64) × (fields ≤ 16)
 
--- its pieces: the fields so far
+-- the fields that it carries so far, and what is left of it
 pub record Pieces (s : List ℕ) (e n line w fields : ℕ) (h : Heads) (at count : ℕ) : Type 0 where
   pub head : Head s e n line w fields
   pub so : List ℕ
   pub count-is : count ≡ length so
   pub few : count ≤ fields
-  pub is : h ≡ carrying (cells (head .begun .going .so) so) (head .old)
-  pub within : at ≤ length s
-  pub same : eventRow (head .begun .sheet .fields) (head .begun .going .so) line (drop (head .from + 6) s)
-      ≡ after (carried (head .begun .sheet .fields) (suc fields - count) so line (drop at s)) (ending (head .name))
+  pub is : h ≡ carrying (cells (head .events .going .so) so) (head .old)
+  pub left : Left (eventsPart 1 s) (λ l t. after (carried (head .events .sheet .fields) (suc (fields - count)) so l t) (ending (head .row .name) (next (head .events .going)))) line at s
 
-module _ (s : List ℕ) (h : Heads) (at : ℕ) (i : Events s h at) (v : List ℕ) (o : EventName) (rest : v ≡ drop at s)
-    (read : EventNameRead (map named (take (h .fields + h .events) (h .names))) (h .events) v o) (w k : ℕ) (told : o ≡ E.Name w k) where
-  pub pieces-start : (at′ : ℕ) → at′ ≡ at + k → Pieces s (h .events) (h .fields + h .events) (2 + (h .fields + h .events)) w (h .fields) h at′ 0
-  pieces-start at′ z =
-      let c = withEvents (i .sheet) (i .going .so) in
-      let x = begun s h at i v o rest read w k told in
-      let f = fields-held h c (i .going .is) in
-      let m : suc (h .fields) - 0 ≡ suc (length (i .sheet .fields)) = omega arith in
-      record {
-        head =
-            record {
-              old = h;
-              from = at;
-              begun = i;
-              stood = x .key;
-              room = x .room;
-              e-is = events-held h c (i .going .is);
-              n-is = sym (numbered s h at i);
-              line-is = refl;
-              fields-is = f;
-              name = x .name;
-              number = x .number;
-              again = x .again;
-            };
-        so = [];
-        count-is = refl;
-        few = omega arith;
-        is = cells-none (i .sheet) (i .going .so) h (i .going .is);
-        within = omega (arith, fits s h at i v o rest read w k told);
-        same = rw (m, z, ← line-is s h at i) (got-row s h at i v o rest read w k told);
-      }
+module _ (s : List ℕ) (h : Heads) (at : ℕ) (i : Events s h at) where
+  abbrev count : ℕ
+  count = h .fields + h .events
+
+  module _ (v : List ℕ) (o : RowName) (rest : v ≡ drop at s) (read : o ≡ rowName (text "event=") (leb 16 (h .events)) (map named (take count (h .names))) v) where
+    row : RowTold (i .going) (tail (i .sheet .fields)) (NoStatuses false) count o
+    row =
+        going-row (i .going) (tail (i .sheet .fields)) (rows (i .sheet) (i .going .so)) (NoStatuses false) refl count
+        (omega (arith, counted _ _ (i .going .is))) 16 (h .events) (omega (arith, counted _ _ (i .going .is))) v o rest read
+
+    -- the section is left: no event stands, one too many does, or its name is refused
+    pub scan-left : (k : ℕ) → o ≡ R.Left k → (f : ℕ) → f ≡ leftWith o → Answer s f (2 + count) at h
+    scan-left k e f g = rw (g, e) (rw e at row)
+
+    module _ (w k : ℕ) (e : o ≡ R.Name w k) where
+      begun : RowTold (i .going) (tail (i .sheet .fields)) (NoStatuses false) count (R.Name w k)
+      begun = rw e at row
+
+      pub scan-room : length s < 2 ^ 64 → Fits w64 (at + k)
+      scan-room f = omega (arith, begun .1 .within)
+
+      pub pieces-start : (at′ : ℕ) → at′ ≡ at + k → Pieces s (h .events) count (2 + count) w (h .fields) h at′ 0
+      pieces-start at′ z =
+          let m : h .fields - 0 ≡ length (i .sheet .fields) = omega (arith, counted _ _ (i .going .is)) in
+          record {
+            head =
+                record {
+                  old = h;
+                  from = at;
+                  events = i;
+                  row = begun .0;
+                  fixed = (refl, refl, refl, omega (arith, begun .0 .room, counted _ _ (i .going .is)), omega (arith, i .going .counts), i .going .counts .0);
+                };
+            so = [];
+            count-is = refl;
+            few = omega arith;
+            is = cells-none (i .sheet) (i .going .so) h (i .going .is);
+            left = rw (m, z) (begun .1);
+          }
 
 module _ (s : List ℕ) (e n line w fields : ℕ) (h : Heads) (at count : ℕ) (i : Pieces s e n line w fields h at count) where
   abbrev flds : List Name
-  flds = i .head .begun .sheet .fields
+  flds = i .head .events .sheet .fields
 
   abbrev evs : List Event
-  evs = i .head .begun .going .so
+  evs = i .head .events .going .so
 
-  abbrev before : Sheet
-  before = withEvents (i .head .begun .sheet) (i .head .begun .going .so)
-
-  next-is : line ≡ nextLine before
-  next-is = i .head .line-is ∙ ap (λ k. 2 + k) (i .head .n-is)
-
-  small-fields : fields ≤ 16
-  small-fields = omega (arith, i .head .fields-is, i .head .begun .going .plain .few-fields)
-
-  left : suc fields - count ≡ suc (fields - count)
-  left = omega (arith, i .few)
-
-  more-room : length evs < 16
-  more-room = omega (arith, i .head .e-is, i .head .room)
-
-  bad-row : (m : ℕ) → eventRow flds evs line (drop (i .head .from + 6) s) ≡ wrong m line → eventsPart 1 s ≡ wrong m line
-  bad-row m q = rw next-is (going-wrong (i .head .begun .going) (i .head .stood) more-room m (rw (← next-is) q))
-
-  bad-piece : (m : ℕ) → carried flds (suc (fields - count)) (i .so) line (drop at s) ≡ wrong m line → eventsPart 1 s ≡ wrong m line
-  bad-piece m q = bad-row m (i .same ∙ rw (left, q))
-
-  pub pieces-few : Fits w8 count
-  pieces-few = omega (arith, small-fields, i .few)
-
-  pub pieces-names : n < 64
-  pieces-names = omega (arith, i .head .n-is, names-count before, i .head .begun .going .plain .few-fields, i .head .begun .going .plain .few-events)
-
-  pub pieces-name : Fits w64 (n * 8)
-  pieces-name = omega (arith, pieces-names)
-
-  pub pieces-room-4 : Fits w64 (16 * e)
-  pieces-room-4 = omega (arith, i .head .room)
-
-  -- a further field
-  cell : 16 * e ≡ length (joined carriedRow evs)
-  cell = omega (arith, i .head .begun .going .plain .carried, i .head .e-is)
-
-  module _ (v : List ℕ) (q : Known) (rest : v ≡ drop (at + 1) s) (read : FieldRead (map named (take (fields - 0) (drop 0 (h .names)))) (take count (drop (16 * e) (h .carried))) fields count v q) where
-    field-told : (p : Known) → q ≡ p → FieldRead flds (i .so) fields count v p
-    field-told p x =
-        let n-is : h .names ≡ i .head .old .names = ap (λ (g : Heads). g .names) (i .is) in
-        let c-is : h .carried ≡ cells evs (i .so) = ap (λ (g : Heads). g .carried) (i .is) in
-        let y : map named (take (fields - 0) (drop 0 (h .names))) ≡ flds
-        = ap (λ l. map named (take (fields - 0) (drop 0 l))) n-is ∙ fields-known (i .head .old) before (i .head .begun .going .is) (i .head .begun .going .plain) fields (i .head .fields-is) in
-        let z : take count (drop (16 * e) (h .carried)) ≡ i .so
-        = ap (λ l. take count (drop (16 * e) l)) c-is ∙ cells-part (i .head .begun .sheet) evs (i .so) (16 * e) count cell (i .count-is) in
-        rw (← y, ← z) (subst (FieldRead (map named (take (fields - 0) (drop 0 (h .names)))) (take count (drop (16 * e) (h .carried))) fields count v) x read)
-
-    module _ (f j : ℕ) (given : q ≡ K.At f j) where
-      field : FieldIs flds (i .so) fields count v f j
-      field = field-told (K.At f j) given
-
-      pub pieces-byte : Fits w8 f
-      pieces-byte = omega (arith, field .place, i .head .fields-is, small-fields)
-
-      pub pieces-room-3 : Fits w64 (at + 1 + j)
-      pieces-room-3 = omega (arith, i .head .begun .going .short, field .within, ap length rest, length-drop (at + 1) s, i .within)
-
-      pub pieces-room-5 : Fits w64 (16 * e + count)
-      pieces-room-5 = omega (arith, i .head .room, small-fields, i .few)
-
-      pub pieces-index : 16 * e + count < 256
-      pieces-index = omega (arith, i .head .room, small-fields, field .room)
-
-      pub pieces-room-6 : Fits w64 (count + 1)
-      pieces-room-6 = omega (arith, small-fields, i .few)
-
-      pub pieces-less : fields - (count + 1) < fields - count
-      pieces-less = omega (arith, field .room)
+  -- a refusal on the line
+  refused : (m : ℕ) → (m ≡ 0 → ⊥) → eventsPart 1 s ≡ wrong m line → (f : ℕ) → f ≡ m → (x : ℕ) (g : Heads) → Answer s f line x g
+  refused m ne e f z x g = rw z (reads-wrong m line ne e (sym (told-fault m line x g _ ne refl)))
 
   module _ (b : Bool) (tested : b ≡ begins (32 ∷ []) (drop at s)) where
     -- the line has no further piece
     module _ (t : not b ≡ true) (c : Bool) (feed : c ≡ begins (10 ∷ []) (drop at s)) where
-      over : eventRow flds evs line (drop (i .head .from + 6) s) ≡ ending (i .head .name) (i .so) line (drop at s)
-      over = i .same ∙ rw (left, carried-over flds (i .so) line (drop at s) (fields - count) (sym tested ∙ not-true b t))
+      over : Left (eventsPart 1 s) (ending (i .head .row .name) (next (i .head .events .going)) (i .so)) line at s
+      over = fields-over flds (i .so) fields count _ (i .left) (sym tested ∙ not-true b t)
 
-      pub pieces-open : not c ≡ true → (x : ℕ) (g : Heads) → Answer s (told (record { number = 2; line = line }) x g)
-      pieces-open u x g =
-          told-wrong s 2 line x 2 g (λ z. omega arith)
-          (bad-row 2 (over ∙ ending-not (i .head .name) (i .so) line (drop at s) (line-not line (drop at s) (sym feed ∙ not-true c u)))) refl
+      pub pieces-open : not c ≡ true → (x : ℕ) (g : Heads) → Answer s 2 line x g
+      pieces-open u = refused 2 (λ z. omega arith) (left-open _ over (sym feed ∙ not-true c u)) 2 refl
 
       module _ (u : not c ≡ false) where
-        fed : at + 1 ≤ length s
-        fed = omega (arith, begins-fits (text "\n") (drop at s) (sym feed ∙ not-false c u), length-drop at s, i .within)
-
-        pub pieces-room-1 : Fits w64 (at + 1)
-        pieces-room-1 = omega (arith, i .head .begun .going .short, fed)
-
         pub pieces-done : (at′ : ℕ) → at′ ≡ at + 1 → Events s (tabled (h .model) (h .fields) (e + 1) (h .stages) (h .miles) (set (h .names) n w) (h .carried) (set (h .carries) e count) (h .under)) at′
         pieces-done at′ z =
-            let ev : Event = record { name = i .head .name; carries = i .so } in
-            let few : length (i .so) ≤ 16 = omega (arith, i .count-is, i .few, small-fields) in
-            let ends = ending-here (i .head .name) (i .so) line (drop at s) _ (line-end-here 2 line (drop at s) c feed (not-false c u)) in
+            let ev : Event = record { name = i .head .row .name; carries = i .so } in
+            let few : length (i .so) ≤ 16 = omega (arith, i .count-is, i .few, i .head .fixed) in
+            let sh = i .head .events .sheet in
+            let g = i .head .events .going in
             record {
-              sheet = i .head .begun .sheet;
+              sheet = sh;
               going =
-                  going-more (i .head .begun .going) (i .head .stood) more-room ev _ at′
-                  (rw (← next-is, z, ← drop-drop 1 at s) (over ∙ ends))
-                  (rw (names-event (i .head .begun .sheet) evs ev) (omega (arith, length-append (allNames before) (i .head .name ∷ []))))
-                  (heads-event (i .head .begun .sheet) evs ev few more-room (i .head .begun .going .plain) h (i .head .old) (i .is) (i .head .begun .going .is) e n w count (i .head .e-is) (i .head .n-is) (i .head .number) (i .count-is))
-                  (plain-event (i .head .begun .sheet) evs ev few more-room (i .head .begun .going .plain) (i .head .again))
-                  (omega (arith, fed));
+                  going-more g (i .head .row) (i .head .fixed .4) ev at′ (rw (z, ← i .head .fixed .2) (left-closed _ over (sym feed ∙ not-false c u))) (names-event sh evs ev) _
+                  (heads-event sh evs ev few (i .head .row .room) (g .plain) h (i .head .old) (i .is) (g .is) e count (omega (arith, i .head .fixed .0, counted _ _ (g .is))) (i .count-is) n w)
+                  (plain-event sh evs ev few (i .head .row .room) (g .plain));
             }
 
     -- a piece stands there
@@ -283,44 +136,50 @@ module _ (s : List ℕ) (e n line w fields : ℕ) (h : Heads) (at count : ℕ) (
       space : begins (text " ") (drop at s) ≡ true
       space = sym tested ∙ not-false b t
 
-      spaced : at + 1 ≤ length s
-      spaced = omega (arith, begins-fits (text " ") (drop at s) space, length-drop at s, i .within)
-
-      pub pieces-room-2 : Fits w64 (at + 1)
-      pieces-room-2 = omega (arith, i .head .begun .going .short, spaced)
-
       module _ (v : List ℕ) (q : Known) (rest : v ≡ drop (at + 1) s)
-          (read : FieldRead (map named (take (fields - 0) (drop 0 (h .names)))) (take count (drop (16 * e) (h .carried))) fields count v q) where
-        pub pieces-wrong : (k : ℕ) → q ≡ K.Refused k → (f : ℕ) → f ≡ knownFault q → (x : ℕ) (g : Heads) → Answer s (told (record { number = f; line = line }) x g)
-        pieces-wrong k refused f y x g =
-            let z = field-told v q rest read (K.Refused k) refused in
-            told-wrong s k line x f g (z .number) (bad-piece k (z .reads line (drop at s) space (drop-drop 1 at s ∙ sym rest))) (y ∙ rw refused)
+          (read : q ≡ fieldOf (leb fields count) (take count (drop (16 * e) (h .carried))) (asKnown v (known (map named (take (fields - 0) (drop 0 (h .names)))) 0 v))) where
+        cell : 16 * e ≡ length (joined carriedRow evs)
+        cell = omega (arith, i .head .events .going .plain .carried, counted _ _ (i .head .events .going .is), i .head .fixed .0)
+
+        piece : FieldTold flds (i .so) fields count _ (i .left) space q
+        piece =
+            let y = ap (λ (g : Heads). map named (take (fields - 0) (drop 0 (g .names)))) (i .is)
+            ∙ fields-known (i .head .old) _ (i .head .events .going .is) (i .head .events .going .plain) fields (omega (arith, i .head .fixed .1, counted _ _ (i .head .events .going .is))) in
+            let z = ap (λ (g : Heads). take count (drop (16 * e) (g .carried))) (i .is) ∙ cells-part (i .head .events .sheet) evs (i .so) (16 * e) count cell (i .count-is) in
+            field-told flds (i .so) fields count _ (i .left) space v rest q (rw (y, z) at read)
+
+        pub pieces-wrong : (k : ℕ) → q ≡ K.Refused k → (f : ℕ) → f ≡ knownFault q → (x : ℕ) (g : Heads) → Answer s f line x g
+        pieces-wrong k given f y = let p = rw given at piece in refused k (p .0) (p .1) f (y ∙ rw given)
 
         module _ (f j : ℕ) (given : q ≡ K.At f j) where
-          next : FieldIs flds (i .so) fields count v f j
-          next = field v q rest read f j given
+          further : FieldTold flds (i .so) fields count _ (i .left) space (K.At f j)
+          further = rw given at piece
 
-          ends : at + 1 + j ≤ length s
-          ends = omega (arith, next .within, ap length rest, length-drop (at + 1) s, spaced)
+          pub pieces-byte : Fits w8 f
+          pieces-byte = omega (arith, further .1, i .head .events .going .plain .few-fields)
+
+          pub pieces-room : length s < 2 ^ 64 → Fits w64 (at + 1 + j)
+          pieces-room f = omega (arith, further .2 .within)
+
+          pub pieces-fewer : fields - (count + 1) < fields - count
+          pieces-fewer = omega (arith, further .0)
+
+          pub pieces-index : 16 * e + count < 256
+          pieces-index = omega (arith, further .0, i .head .fixed)
 
           pub pieces-more : (at′ : ℕ) → at′ ≡ at + 1 + j → Pieces s e n line w fields (tabled (h .model) (h .fields) (h .events) (h .stages) (h .miles) (h .names) (set (h .carried) (16 * e + count) f) (h .carries) (h .under)) at′ (count + 1)
           pieces-more at′ z =
-              let k : 16 * e + count ≡ length (joined carriedRow evs) + length (i .so) = omega (arith, cell, i .count-is) in
-              let m : suc fields - (count + 1) ≡ fields - count = omega arith in
-              let known-is : known flds line (drop 1 (drop at s)) ≡ got f line (drop (at + 1 + j) s) = rw (drop-drop 1 at s, ← drop-drop j (at + 1) s, ← rest) (next .reads line) in
+              let m : suc (fields - (count + 1)) ≡ fields - count = omega (arith, further .0) in
               record {
                 head = i .head;
                 so = i .so ++ (f ∷ []);
                 count-is = omega (arith, i .count-is, length-append (i .so) (f ∷ []));
-                few = omega (arith, next .room);
-                is = rw (i .is, cells-set (i .head .begun .sheet) evs (i .so) (16 * e + count) k (pieces-index v q rest read f j given) f);
-                within = omega (arith, ends);
-                same = i .same ∙ rw (left, m, z, carried-next flds (i .so) line (drop at s) space f (drop (at + 1 + j) s) known-is (fields - count) (next .new));
+                few = omega (arith, further .0);
+                is = rw (i .is, cells-set (i .head .events .sheet) evs (i .so) (16 * e + count) (omega (arith, cell, i .count-is)) pieces-index f);
+                left = rw (m, z) (further .2);
               }
 
-pub ruleset scanning = (events-start, scan-room, scan-lines, scan-left, scan-room-2, pieces-start, pieces-open, pieces-room-1, pieces-done, pieces-few, pieces-names, pieces-name, pieces-room-2, pieces-room-4, pieces-wrong, pieces-room-3, pieces-byte, pieces-room-5, pieces-index, pieces-room-6, pieces-less, pieces-more)
+pub ruleset scanning = (events-start, scan-left, scan-room, pieces-start, pieces-open, pieces-done, stands-room, pieces-wrong, pieces-byte, pieces-room, pieces-fewer, pieces-index, pieces-more)
 
-pub events-answer : (s : List ℕ) (f : Fault) (at : ℕ) (h : Heads) (r : HeadsRead) → Answer s (told f at h) → r ≡ told f at h → Answer s r
-events-answer s f at h r a q = rw q a
-
-pub ruleset eventing = (events-handed, events-answer)
+pub events-answer : (s : List ℕ) (f l at : ℕ) (h : Heads) (r : HeadsRead) → Answer s f l at h → r ≡ told f l at h → Reads (NoStatuses false) s (eventsPart 1 s) r
+events-answer s f l at h r a q = rw q a

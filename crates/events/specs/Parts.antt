@@ -10,7 +10,7 @@ use Rattle.fields.specs.Parts.{sheetOf, fieldsPart}
 abbrev pub withEvents : Sheet → List Event → Sheet
 withEvents sh es = sheetOf (sh .model) (sh .fields) es [] []
 
-unfoldable pub eventsPart : Reader Sheet
+abbrev pub eventsPart : Reader Sheet
 eventsPart = do
   sh ← fieldsPart
   es ← section (text "event=") (eventRow (sh .fields)) eventLimit []

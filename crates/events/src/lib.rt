@@ -3,18 +3,22 @@ ghost use mathlib.Core.Path.{_≡_};
 ghost use mathlib.Core.Bool.{false};
 ghost use mathlib.Core.List.{map};
 ghost use Prim.Native.Nat.{_-_};
+ghost use lib.Dec.{leb};
 ghost use lib.ListN.{take, drop};
-ghost use Rattle.meaning.specs.Text.{isIn};
+ghost use Rattle.meaning.specs.Text.{text, isIn};
+ghost use Rattle.meaning.specs.Name.{known};
 ghost use Rattle.text.specs.Packed.{named};
+ghost use Rattle.text.specs.Answers.{asKnown};
+ghost use Rattle.fields.specs.Answers.{rowName, told};
 ghost use Rattle.fields.specs.Parts.{fieldsPart};
 ghost use Rattle.fields.specs.Held.{Reads, NoEvents};
-ghost use Rattle.events.specs.Answers.{knownFault, leftWith, told};
+ghost use Rattle.events.specs.Answers.{knownFault, fieldOf};
 ghost use Rattle.events.specs.Parts.{eventsPart};
-ghost use Rattle.events.specs.Held.{NoStatuses, EventNameRead, FieldRead};
+ghost use Rattle.events.specs.Held.{NoStatuses};
 use fields::HeadsRead;
+use fields::RowName;
 use tables::Heads;
 use text::Known;
-use text::NamePiece;
 
 // The first fault of a section; the number is 0 where there is none.
 struct Fault {
@@ -29,12 +33,6 @@ struct Scanned {
     heads: Heads,
 }
 
-// The name of an event that begins, and how many bytes its key and it took; or with which number the section is left, 0 where no event stands.
-enum EventName {
-    Name(u64, usize),
-    Left(u8),
-}
-
 // How many events a sheet may have.
 const EVENTS: usize = 16;
 
@@ -42,25 +40,6 @@ const EVENTS: usize = 16;
 const LINE: u8 = 2;
 
 const NAME: u8 = 3;
-
-const FULL: u8 = 6;
-
-// The answer of a section that was left with `fault` at `at`.
-fn answer(fault: Fault, at: usize, heads: Heads) -> HeadsRead
-    ensures { λ r. ⌜ r ≡ told fault at heads ⌝ }
-{
-    let number = fault.number;
-    let line = fault.line;
-    if number != 0 {
-        return fields::refused(number, line);
-    }
-    HeadsRead {
-        number: 0,
-        line,
-        at,
-        heads,
-    }
-}
 
 pub fn known_fault(p: Known) -> u8
     ensures { λ r. ⌜ r ≡ knownFault p ⌝ }
@@ -90,29 +69,10 @@ fn is_carried(carried: &[u8], from: usize, n: usize, field: usize) -> bool
 }
 
 // The key and the name of an event, where there are `e` so far; the name is none of the first `n`.
-fn event_name(t: &[u8], names: &[u64], n: usize, e: usize) -> EventName
-    ensures { λ r. ⌜ EventNameRead (map named (take n (now (names .entry)))) e (now (t .entry)) r ⌝ }
+fn event_name(t: &[u8], names: &[u64], n: usize, e: usize) -> RowName
+    ensures { λ r. ⌜ r ≡ rowName (text "event=") (leb 16 e) (map named (take n (now (names .entry)))) (now (t .entry)) ⌝ }
 {
-    if !text::starts(t, b"event=") {
-        return EventName::Left(0);
-    }
-    if EVENTS <= e {
-        return EventName::Left(FULL);
-    }
-    let p = text::new_name(text::rest(t, 6), names, n);
-    let NamePiece::Name(w, k) = p else {
-        return EventName::Left(fields::name_fault(p));
-    };
-    EventName::Name(w, 6 + k)
-}
-
-fn left_with(o: EventName) -> u8
-    ensures { λ r. ⌜ r ≡ leftWith o ⌝ }
-{
-    match o {
-        EventName::Name(_, _) => 0,
-        EventName::Left(k) => k,
-    }
+    fields::row_name(t, b"event=", EVENTS <= e, names, n)
 }
 
 // The next field that an event carries, one of the first `fields` names. It carries `count` so far, from `from` on: none twice, and never more than there are.
@@ -124,7 +84,7 @@ fn next_field<'a>(
     from: usize,
     count: usize,
 ) -> Known
-    ensures { λ r. ⌜ FieldRead (map named (take (fields - 0) (drop 0 (now (names .entry))))) (take count (drop from (now (carried .entry)))) fields count (now (t .entry)) r ⌝ }
+    ensures { λ r. ⌜ r ≡ fieldOf (leb fields count) (take count (drop from (now (carried .entry)))) (asKnown (now (t .entry)) (known (map named (take (fields - 0) (drop 0 (now (names .entry))))) 0 (now (t .entry)))) ⌝ }
 {
     let p = text::known_name(t, names, 0, fields);
     let Known::At(f, _) = p else {
@@ -142,7 +102,7 @@ fn next_field<'a>(
 // Line after line, and piece after piece of a line; the first fault ends the scan.
 fn scan_events(s: &[u8], before: HeadsRead) -> Scanned
     requires { ⌜ (before .number ≡ 0) × Reads NoEvents (now s) (fieldsPart 1 (now s)) before ⌝ }
-    ensures { λ r. ⌜ Reads (NoStatuses false) (now (s .entry)) (eventsPart 1 (now (s .entry))) (told (r .fault) (r .at) (r .heads)) ⌝ }
+    ensures { λ r. ⌜ Reads (NoStatuses false) (now (s .entry)) (eventsPart 1 (now (s .entry))) (told (r .fault .number) (r .fault .line) (r .at) (r .heads)) ⌝ }
 {
     let mut h = before.heads;
     let mut at = before.at;
@@ -151,9 +111,9 @@ fn scan_events(s: &[u8], before: HeadsRead) -> Scanned
         let n = h.fields + e;
         let line = 2 + n;
         let o = event_name(text::rest(s, at), &h.names, n, e);
-        let EventName::Name(w, k) = o else {
+        let RowName::Name(w, k) = o else {
             break 'scan Fault {
-                number: left_with(o),
+                number: fields::left_with(o),
                 line,
             };
         };
@@ -209,5 +169,5 @@ pub fn read_events(s: &[u8]) -> HeadsRead
     let e = scan_events(s, before);
     let fault = e.fault;
     let heads = e.heads;
-    answer(fault, e.at, heads)
+    fields::answer(fault.number, fault.line, e.at, heads)
 }

@@ -6,11 +6,14 @@ use mathlib.Core.List.{List, [], _∷_}
 use lib.ListN.{drop}
 use Rattle.meaning.specs.Text.{begins}
 use Rattle.meaning.specs.Reading.{Got}
+use Rattle.meaning.specs.Name.{Name}
 use Rattle.meaning.specs.Sheet.{Sheet}
 use Rattle.theory.specs.Determined.{only}
 use Rattle.text.specs.declared.NamePiece.{NamePiece}
+use Rattle.tables.specs.declared.Heads.{Heads}
 use Rattle.fields.specs.declared.HeadsRead.{HeadsRead}
-use Rattle.fields.specs.Answers.{refusal, nameFault}
+use Rattle.fields.specs.declared.RowName.{RowName}
+use Rattle.fields.specs.Answers.{refusal, nameFault, rowName, leftWith, told}
 use Rattle.fields.specs.Parts.{fieldsPart}
 use Rattle.fields.specs.Held.{Reads, NoEvents}
 
@@ -22,6 +25,15 @@ name-fault-only p r q = only
 
 pub stands-only : (s : List ℕ) (at b : ℕ) (r q : Bool) → r ≡ begins (b ∷ []) (drop at s) → q ≡ begins (b ∷ []) (drop at s) → r ≡ q
 stands-only s at b r q = only
+
+pub row-name-only : (key : List ℕ) (full : Bool) (used : List Name) (t : List ℕ) (r q : RowName) → r ≡ rowName key full used t → q ≡ rowName key full used t → r ≡ q
+row-name-only key full used t r q = only
+
+pub left-with-only : (o : RowName) (r q : ℕ) → r ≡ leftWith o → q ≡ leftWith o → r ≡ q
+left-with-only o r q = only
+
+pub answer-only : (n l at : ℕ) (h : Heads) (r q : HeadsRead) → r ≡ told n l at h → q ≡ told n l at h → r ≡ q
+answer-only n l at h r q = only
 
 -- whatever is known of the sheet beside
 pub reads-only : {Q : Sheet → Type 0} (s : List ℕ) (x : Got Sheet) (r q : HeadsRead) → Reads Q s x r → Reads Q s x q → r ≡ q

@@ -1,13 +1,20 @@
 -- What the code answers for what the meaning reads above the rules.
-use Prim.Native.Nat.{ℕ, _-_}
+use Prim.Native.Nat.{ℕ, zero, suc, _+_, _-_}
+use mathlib.Core.Bool.{Bool, true, false}
 use mathlib.Core.List.{List}
-use lib.ListN.{length}
+use lib.ListN.{length, drop}
+use Rattle.meaning.specs.Text.{begins}
 use Rattle.meaning.specs.Reading.{Got, got, wrong}
+use Rattle.meaning.specs.Name.{Name, newName}
 use Rattle.meaning.specs.Sheet.{Sheet}
 use Rattle.text.specs.declared.NamePiece.{NamePiece}
 use Rattle.text.specs.declared.NamePiece.the-variants as N
+use Rattle.text.specs.Answers.{asName}
+use Rattle.tables.specs.declared.Heads.{Heads}
 use Rattle.tables.specs.Heads.{asHeads, blank}
 use Rattle.fields.specs.declared.HeadsRead.{HeadsRead}
+use Rattle.fields.specs.declared.RowName.{RowName}
+use Rattle.fields.specs.declared.RowName.the-variants as R
 
 -- a refusal has its number and line, and nothing else
 abbrev pub refusal : ℕ → ℕ → HeadsRead
@@ -22,3 +29,24 @@ asHeadsRead s (wrong n l) = refusal n l
 abbrev pub nameFault : NamePiece → ℕ
 nameFault (N.Name v n) = 0
 nameFault (N.Refused k) = k
+
+-- the next row of a section, by whether its key of j bytes stands there, whether there is no room, and how its name is answered
+abbrev pub asRow : Bool → Bool → ℕ → NamePiece → RowName
+asRow false full j p = R.Left 0
+asRow true true j p = R.Left 6
+asRow true false j (N.Name v n) = R.Name v (j + n)
+asRow true false j (N.Refused k) = R.Left k
+
+-- whether its key stands at the start of t, and behind it a name that is not used yet
+abbrev pub rowName : List ℕ → Bool → List Name → List ℕ → RowName
+rowName key full used t = asRow (begins key t) full (length key) (asName (newName used 0 (drop (length key) t)))
+
+-- the number with which a section is left
+abbrev pub leftWith : RowName → ℕ
+leftWith (R.Name v n) = 0
+leftWith (R.Left k) = k
+
+-- the tables, or the refusal with which a section is left
+abbrev pub told : ℕ → ℕ → ℕ → Heads → HeadsRead
+told zero l at h = record { number = 0; line = l; at = at; heads = h }
+told (suc n) l at h = refusal (suc n) l

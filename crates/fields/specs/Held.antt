@@ -5,7 +5,7 @@ use mathlib.Core.List.{List, []}
 use lib.ListN.{length, drop}
 use Rattle.meaning.specs.Text.{joined}
 use Rattle.meaning.specs.Reading.{Got, got}
-use Rattle.meaning.specs.Sheet.{Sheet, Event, eventNames, statusNames}
+use Rattle.meaning.specs.Sheet.{Sheet, Event}
 use Rattle.tables.specs.Heads.{padded, asHeads, allNames, Again}
 use Rattle.fields.specs.declared.HeadsRead.{HeadsRead}
 use Rattle.fields.specs.Answers.{asHeadsRead}
@@ -19,12 +19,9 @@ nextLine sh = 2 + length (allNames sh)
 abbrev pub carriedRow : Event → List ℕ
 carriedRow e = padded 16 0 (e .carries)
 
--- names are good ones, and the sections within their limits
+-- names are told by their numbers, and the sections within their limits
 pub record Plain (sh : Sheet) : Type 0 where
-  pub fields : Again (sh .fields)
-  pub events : Again (eventNames (sh .events))
-  pub stages : Again (statusNames (sh .stages))
-  pub miles : Again (statusNames (sh .miles))
+  pub names : Again (allNames sh)
   pub carried : length (joined carriedRow (sh .events)) ≡ 16 * length (sh .events)
   pub few-fields : length (sh .fields) ≤ 16
   pub few-events : length (sh .events) ≤ 16

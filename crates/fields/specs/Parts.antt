@@ -26,7 +26,7 @@ modelPart = do
   lineEnd LINE
   give (sheetOf m [] [] [] [])
 
-unfoldable pub fieldsPart : Reader Sheet
+abbrev pub fieldsPart : Reader Sheet
 fieldsPart = do
   sh ← modelPart
   fs ← section (text "field=") fieldRow fieldLimit []

@@ -1,9 +1,10 @@
 // What a sheet begins with: the model and the fields.
 ghost use mathlib.Core.Path.{_≡_};
-ghost use mathlib.Core.List.{[], _∷_};
-ghost use lib.ListN.{drop};
-ghost use Rattle.meaning.specs.Text.{begins, text};
-ghost use Rattle.fields.specs.Answers.{nameFault, refusal};
+ghost use mathlib.Core.List.{[], _∷_, map};
+ghost use lib.ListN.{take, drop};
+ghost use Rattle.meaning.specs.Text.{begins};
+ghost use Rattle.text.specs.Packed.{named};
+ghost use Rattle.fields.specs.Answers.{nameFault, leftWith, refusal, rowName, told};
 ghost use Rattle.fields.specs.Parts.{modelPart, fieldsPart};
 ghost use Rattle.fields.specs.Held.{Reads, NoFields, NoEvents};
 use tables::Heads;
@@ -15,6 +16,12 @@ pub struct HeadsRead {
     pub line: usize,
     pub at: usize,
     pub heads: Heads,
+}
+
+// The name of a row that begins, and how many bytes its key and it took; or with which number the section is left, 0 where no row stands.
+pub enum RowName {
+    Name(u64, usize),
+    Left(u8),
 }
 
 // How many fields a sheet may have.
@@ -55,18 +62,50 @@ pub fn stands(s: &[u8], at: usize, b: u8) -> bool
     s[at] == b
 }
 
-fn field_stands(s: &[u8], at: usize) -> bool
-    ensures { λ r. ⌜ r ≡ begins (text "field=") (drop at (now (s .entry))) ⌝ }
+// The key and the name of the next row of a section; the name is none of the first `n`. `full`: there is no room for a row.
+pub fn row_name(t: &[u8], key: &[u8], full: bool, names: &[u64], n: usize) -> RowName
+    ensures { λ r. ⌜ r ≡ rowName (now (key .entry)) full (map named (take n (now (names .entry)))) (now (t .entry)) ⌝ }
 {
-    text::starts(text::rest(s, at), b"field=")
+    if !text::starts(t, key) {
+        return RowName::Left(0);
+    }
+    if full {
+        return RowName::Left(FULL);
+    }
+    let p = text::new_name(text::rest(t, key.len()), names, n);
+    let NamePiece::Name(w, k) = p else {
+        return RowName::Left(name_fault(p));
+    };
+    RowName::Name(w, key.len() + k)
+}
+
+pub fn left_with(o: RowName) -> u8
+    ensures { λ r. ⌜ r ≡ leftWith o ⌝ }
+{
+    match o {
+        RowName::Name(_, _) => 0,
+        RowName::Left(k) => k,
+    }
+}
+
+// The answer of a section that was left with `number` at `at`.
+pub fn answer(number: u8, line: usize, at: usize, heads: Heads) -> HeadsRead
+    ensures { λ r. ⌜ r ≡ told number line at heads ⌝ }
+{
+    if number != 0 {
+        return refused(number, line);
+    }
+    HeadsRead {
+        number: 0,
+        line,
+        at,
+        heads,
+    }
 }
 
 fn read_model(s: &[u8]) -> HeadsRead
     ensures { λ r. ⌜ Reads NoFields (now (s .entry)) (modelPart 1 (now (s .entry))) r ⌝ }
 {
-    if s.len() == 0 {
-        return refused(LINE, 1);
-    }
     if !text::starts(s, b"model=") {
         return refused(LINE, 1);
     }
@@ -74,7 +113,8 @@ fn read_model(s: &[u8]) -> HeadsRead
     let NamePiece::Name(w, n) = p else {
         return refused(name_fault(p), 1);
     };
-    if !stands(s, 6 + n, b'\n') {
+    let at = 6 + n;
+    if !stands(s, at, b'\n') {
         return refused(LINE, 1);
     }
     let mut h = tables::no_heads();
@@ -82,7 +122,7 @@ fn read_model(s: &[u8]) -> HeadsRead
     HeadsRead {
         number: 0,
         line: 2,
-        at: 7 + n,
+        at: at + 1,
         heads: h,
     }
 }
@@ -100,21 +140,9 @@ fn scan_fields(s: &[u8], before: HeadsRead) -> HeadsRead
     loop {
         let n = h.fields;
         let line = 2 + n;
-        if !field_stands(s, at) {
-            return HeadsRead {
-                number: 0,
-                line,
-                at,
-                heads: h,
-            };
-        }
-        if FIELDS <= n {
-            return refused(FULL, line);
-        }
-        at = at + 6;
-        let p = text::new_name(text::rest(s, at), &h.names, n);
-        let NamePiece::Name(w, k) = p else {
-            return refused(name_fault(p), line);
+        let o = row_name(text::rest(s, at), b"field=", FIELDS <= n, &h.names, n);
+        let RowName::Name(w, k) = o else {
+            return answer(left_with(o), line, at, h);
         };
         at = at + k;
         if !stands(s, at, b'\n') {

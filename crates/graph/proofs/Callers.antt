@@ -24,8 +24,10 @@ use Rattle.verdict.specs.Flat.{word, bit, comparisonWord, leafWord}
 use Rattle.verdict.proofs.Leaves.{words-leaves}
 use Rattle.rules.specs.declared.Rules.{Rules}
 use Rattle.trigger.specs.Answers.{isPlus, asTrigger}
-use Rattle.rules.specs.Answers.{nodeOf, wordsOf, asRule, asRows, allWords, asRules, noRule}
-use Rattle.rules.proofs.Callers.{node-same, rows-taken}
+use Rattle.rule.specs.Answers.{nodeOf, wordsOf, asRule, noRule}
+use Rattle.rules.specs.Answers.{asRows, allWords, asRules}
+use Rattle.rule.proofs.Callers.{node-same}
+use Rattle.rules.proofs.Callers.{rows-taken}
 use Rattle.tables.proofs.Tables.{under-over}
 use Rattle.order.specs.declared.Sorting.{Sorting}
 use Rattle.order.specs.Answers.{asSorting}

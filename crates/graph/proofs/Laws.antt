@@ -20,9 +20,9 @@ use Rattle.order.specs.Answers.{asSorting}
 use Rattle.order.proofs.Callers.{has-with, edges-none, sort-same}
 use Rattle.trigger.specs.declared.Trigger.{Trigger}
 use Rattle.trigger.specs.declared.Trigger.the-variants.{Always, Event, Rise, Fall}
-use Rattle.rules.specs.declared.Rule.{Rule}
+use Rattle.rule.specs.declared.Rule.{Rule}
 use Rattle.rules.specs.declared.Rules.{Rules}
-use Rattle.rules.specs.Answers.{nodeOf}
+use Rattle.rule.specs.Answers.{nodeOf}
 use Rattle.graph.specs.Edges.{triggerNodes, wordNodes, overNodes, ruleNodes, parentNode, closingNodes, tableInto}
 use Rattle.graph.specs.Added.{toward, rulesInto, Added}
 

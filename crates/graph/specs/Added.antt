@@ -8,8 +8,8 @@ use lib.ListN.{length, getD}
 use Rattle.meaning.specs.Text.{isIn, keep, joined}
 use Rattle.meaning.specs.Graph.{Into}
 use Rattle.order.specs.Masks.{has}
-use Rattle.rules.specs.declared.Rule.{Rule}
-use Rattle.rules.specs.Answers.{nodeOf}
+use Rattle.rule.specs.declared.Rule.{Rule}
+use Rattle.rule.specs.Answers.{nodeOf}
 use Rattle.graph.specs.Edges.{ruleNodes}
 
 -- the edges from these nodes to one node

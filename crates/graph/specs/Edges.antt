@@ -9,9 +9,9 @@ use Rattle.meaning.specs.Graph.{Into}
 use Rattle.meaning.specs.Dependency.{up, down, both}
 use Rattle.trigger.specs.declared.Trigger.{Trigger}
 use Rattle.trigger.specs.declared.Trigger.the-variants.{Always, Event, Rise, Fall}
-use Rattle.rules.specs.declared.Rule.{Rule}
+use Rattle.rule.specs.declared.Rule.{Rule}
 use Rattle.rules.specs.declared.Rules.{Rules}
-use Rattle.rules.specs.Answers.{nodeOf}
+use Rattle.rule.specs.Answers.{nodeOf}
 
 -- a trigger gives the edge from its node
 abbrev pub triggerNodes : Trigger → List ℕ

@@ -8,11 +8,11 @@ ghost use Rattle.meaning.specs.Text.{joined};
 ghost use Rattle.meaning.specs.Graph.{orderFor};
 ghost use Rattle.meaning.specs.Dependency.{up, down, both};
 ghost use Rattle.order.specs.Answers.{asSorting};
-ghost use Rattle.rules.specs.Answers.{nodeOf};
+ghost use Rattle.rule.specs.Answers.{nodeOf};
 ghost use Rattle.graph.specs.Edges.{triggerNodes, wordNodes, overNodes, ruleNodes, parentNode, closingNodes, tableInto};
 ghost use Rattle.graph.specs.Added.{Added, toward, rulesInto};
 use order::Sorting;
-use rules::Rule;
+use rule::Rule;
 use rules::Rules;
 use trigger::Trigger;
 

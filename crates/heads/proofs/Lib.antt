@@ -1,6 +1,5 @@
 -- The stages and the miles:
 pub mod Parent
-pub mod Status
 pub mod Statuses
 -- All sections together:
 pub mod Whole

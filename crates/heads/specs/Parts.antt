@@ -1,6 +1,6 @@
 -- What is read with the stages, and with the miles.
 use Prim.Native.Nat.{ℕ, _-_}
-use mathlib.Core.Bool.{Bool, true, false}
+use mathlib.Core.Bool.{Bool, true, false, cond}
 use mathlib.Core.List.{List, []}
 use mathlib.Core.Option.{Option, none, some}
 use lib.ListN.{length}
@@ -28,8 +28,7 @@ statusRoom false sh = statusLimit
 statusRoom true sh = statusLimit - length (sh .stages)
 
 abbrev pub withStatuses : Bool → Sheet → List Status → Sheet
-withStatuses false sh xs = sheetOf (sh .model) (sh .fields) (sh .events) xs []
-withStatuses true sh xs = sheetOf (sh .model) (sh .fields) (sh .events) (sh .stages) xs
+withStatuses miles sh xs = sheetOf (sh .model) (sh .fields) (sh .events) (cond miles (sh .stages) xs) (cond miles xs [])
 
 abbrev pub statusesOn : Bool → Reader Sheet → Reader Sheet
 statusesOn miles before = do
@@ -37,20 +36,13 @@ statusesOn miles before = do
   xs ← section (statusKey miles) (statusRow miles sh) (statusRoom miles sh) []
   give (withStatuses miles sh xs)
 
-unfoldable pub stagesPart : Reader Sheet
-stagesPart = statusesOn false eventsPart
-
-unfoldable pub milesPart : Reader Sheet
-milesPart = statusesOn true stagesPart
-
 -- what is read before the stages, before the miles, and with them
 abbrev pub beforePart : Bool → Reader Sheet
 beforePart false = eventsPart
-beforePart true = stagesPart
+beforePart true = statusesOn false eventsPart
 
 abbrev pub statusesPart : Bool → Reader Sheet
-statusesPart false = stagesPart
-statusesPart true = milesPart
+statusesPart miles = statusesOn miles (beforePart miles)
 
 -- behind a status's name: a space and one of the stages, or nothing
 unfoldable pub underPiece : List Name → Reader (Option ℕ)

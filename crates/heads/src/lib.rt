@@ -9,22 +9,16 @@ ghost use Rattle.text.specs.Packed.{named};
 ghost use Rattle.fields.specs.Answers.{asHeadsRead};
 ghost use Rattle.fields.specs.Held.{Reads};
 ghost use Rattle.events.specs.Held.{NoStatuses};
-ghost use Rattle.heads.specs.Answers.{underFault, statusFault};
-ghost use Rattle.heads.specs.Parts.{beforePart, statusesPart, statusKey};
-ghost use Rattle.heads.specs.Held.{Behind, UnderRead, StatusRead};
+ghost use Rattle.heads.specs.Answers.{underFault, asUnder};
+ghost use Rattle.heads.specs.Parts.{beforePart, statusesPart, statusKey, underPiece};
+ghost use Rattle.heads.specs.Held.{Behind};
 use fields::HeadsRead;
+use fields::RowName;
 use text::Known;
-use text::NamePiece;
 
 // Under which stage a status stands, as the tables have it, and how many bytes that took; or the refusal's number.
 enum Under {
     Stage(usize, usize),
-    Refused(u8),
-}
-
-// A stage or a mile: its name, under which stage it stands, and how many bytes that took; or the refusal's number.
-enum StatusLine {
-    Status(u64, usize, usize),
     Refused(u8),
 }
 
@@ -34,11 +28,9 @@ const STATUSES: usize = 32;
 // The numbers of the refusals.
 const LINE: u8 = 2;
 
-const FULL: u8 = 6;
-
 // What stands behind a status's name: a space and one of the stages, which are the names from `from` up to `to`, or nothing.
 fn under_piece(t: &[u8], names: &[u64], from: usize, to: usize) -> Under
-    ensures { λ r. ⌜ UnderRead (map named (take (to - from) (drop from (now (names .entry))))) (now (t .entry)) r ⌝ }
+    ensures { λ r. ⌜ r ≡ asUnder (now (t .entry)) (underPiece (map named (take (to - from) (drop from (now (names .entry))))) 0 (now (t .entry))) ⌝ }
 {
     if !fields::stands(t, 0, b' ') {
         return Under::Stage(0, 0);
@@ -56,33 +48,6 @@ fn under_fault(p: Under) -> u8
     match p {
         Under::Stage(_, _) => 0,
         Under::Refused(k) => k,
-    }
-}
-
-// What stands behind the key of a stage or a mile. The name is none of the first `n`; the stages are the names from `from` up to `to`.
-fn status_line(t: &[u8], names: &[u64], n: usize, from: usize, to: usize) -> StatusLine
-    ensures { λ r. ⌜ StatusRead (map named (take n (now (names .entry)))) (map named (take (to - from) (drop from (now (names .entry))))) (now (t .entry)) r ⌝ }
-{
-    let p = text::new_name(t, names, n);
-    let NamePiece::Name(w, k) = p else {
-        return StatusLine::Refused(fields::name_fault(p));
-    };
-    let q = under_piece(text::rest(t, k), names, from, to);
-    let Under::Stage(u, j) = q else {
-        return StatusLine::Refused(under_fault(q));
-    };
-    if !fields::stands(t, k + j, b'\n') {
-        return StatusLine::Refused(LINE);
-    }
-    StatusLine::Status(w, u, k + j + 1)
-}
-
-fn status_fault(p: StatusLine) -> u8
-    ensures { λ r. ⌜ r ≡ statusFault p ⌝ }
-{
-    match p {
-        StatusLine::Status(_, _, _) => 0,
-        StatusLine::Refused(k) => k,
     }
 }
 
@@ -112,23 +77,20 @@ fn read_statuses(s: &[u8], before: HeadsRead, key: &[u8], miles: bool) -> HeadsR
         let x = h.stages + h.miles;
         let n = from + x;
         let line = 2 + n;
-        if !text::starts(text::rest(s, at), key) {
-            return HeadsRead {
-                number: 0,
-                line,
-                at,
-                heads: h,
-            };
-        }
-        if STATUSES <= x {
-            return fields::refused(FULL, line);
-        }
-        at = at + key.len();
-        let p = status_line(text::rest(s, at), &h.names, n, from, from + h.stages);
-        let StatusLine::Status(w, u, k) = p else {
-            return fields::refused(status_fault(p), line);
+        let o = fields::row_name(text::rest(s, at), key, STATUSES <= x, &h.names, n);
+        let RowName::Name(w, k) = o else {
+            return fields::answer(fields::left_with(o), line, at, h);
         };
         at = at + k;
+        let p = under_piece(text::rest(s, at), &h.names, from, from + h.stages);
+        let Under::Stage(u, j) = p else {
+            return fields::refused(under_fault(p), line);
+        };
+        at = at + j;
+        if !fields::stands(s, at, b'\n') {
+            return fields::refused(LINE, line);
+        }
+        at = at + 1;
         h.names[n] = w;
         h.under[x] = u as u8;
         h.stages = h.stages + stage;

@@ -1,63 +1,98 @@
--- For callers: what an answer of this crate tells of the meaning, at every line l and for every rest t.
-use Prim.Native.Nat.{ℕ, suc, _+_}
-use mathlib.Core.Path.{_≡_}
-use mathlib.Core.List.{List}
+-- For callers: what the pieces and lines tell of a text, at every line, and what an answer of this crate tells of them.
+use Prim.Native.Nat.{ℕ, suc, _+_, _≤_}
+use mathlib.Core.Path.{_≡_, refl, sym, _∙_, ap, subst}
+use mathlib.Core.Bool.{Bool, cond}
+use mathlib.Core.List.{List, _++_}
 use native.Mathlib.Omega.{arith}
-use lib.ListN.{length}
+use lib.ListN.{length, drop, length-append}
+use Rattle.meaning.specs.Text.{text}
 use Rattle.meaning.specs.Refusal.{LINE}
-use Rattle.meaning.specs.Reading.{wrong, lineEnd}
-use Rattle.meaning.specs.Name.{Name}
+use Rattle.meaning.specs.Reading.{Got, got, wrong, Reader, after, due}
+use Rattle.meaning.specs.Name.{Name, dueName}
+use Rattle.meaning.specs.Number.{Entry}
 use Rattle.meaning.specs.Card.{fieldEntry, statusMark, ended}
+use Rattle.theory.specs.Built.{line-fault, due-built, dueName-built}
+use Rattle.theory.specs.BuiltPapers.{entry-line-built, mark-line-built}
+use Rattle.theory.specs.Spelling.{due-spells, dueName-spells}
+use Rattle.theory.specs.EventText.{field-spells}
+use Rattle.theory.specs.Answered.{Ends, here, inline-ends, spelled-ends, ends-weaker, ends-after, ended-ends, bytes, fault, Kind, Left, left-on, left-off}
 use Rattle.text.specs.declared.Bytes.{Bytes}
 use Rattle.text.specs.declared.Bytes.the-variants as B
 use Rattle.text.specs.Answers.{asBytes}
+use Rattle.text.proofs.Callers.{bytesKind}
+use Rattle.number.specs.Answers.{coded}
 use Rattle.lines.specs.declared.ValuePiece.{ValuePiece}
 use Rattle.lines.specs.declared.ValuePiece.the-variants as VP
 use Rattle.lines.specs.declared.MarkPiece.{MarkPiece}
 use Rattle.lines.specs.declared.MarkPiece.the-variants as M
-use Rattle.lines.specs.Answers.{spaced, caseLine, asValue, asMark}
-use Rattle.lines.proofs.Told.{Told, here, Any, told-status, told-ended, told-line, told-case}
-use Rattle.lines.proofs.Pieces.{Took, bytes-took, bytes-kept, Valued, value-took, value-kept, shown-ended, Marked, mark-took, mark-kept, shown-spaced}
+use Rattle.lines.specs.Answers.{keyed, spaced, caseLine, asValue}
 
--- the LF of a line, from the answer p of line_end
-module _ (t : List ℕ) (p : Bytes) (is : p ≡ asBytes t (lineEnd LINE 0 t)) where
-  pub line-took : (n : ℕ) → p ≡ B.Read n → Took suc 1 (lineEnd LINE) t n
-  line-took n e = bytes-took suc 1 (lineEnd LINE) t p is (told-line t) n e
+-- PIECES OF KNOWN TEXT
 
-  pub line-kept : (k : ℕ) → p ≡ B.Refused k → (l : ℕ) → lineEnd LINE l t ≡ wrong k l
-  line-kept k e l = bytes-kept suc 1 (lineEnd LINE) t p is (told-line t) k e l
+pub due-ends : (w t : List ℕ) → Ends here (λ u n. n ≡ length w) (due LINE w) t
+due-ends w = spelled-ends (due-built w line-fault) (due-spells LINE w)
 
--- the first line of a card, from the answer p of case_line
-module _ (d : Name) (t : List ℕ) (p : Bytes) (is : p ≡ asBytes t (caseLine d 0 t)) where
-  pub case-took : (n : ℕ) → p ≡ B.Read n → Took suc (length d + 6) (caseLine d) t n
-  case-took n e = bytes-took suc (length d + 6) (caseLine d) t p is (told-case d t) n e
+pub name-ends : (d : Name) (t : List ℕ) → Ends here (λ u n. n ≡ length d) (dueName d) t
+name-ends d = spelled-ends (dueName-built d) (dueName-spells d)
 
-  pub case-kept : (k : ℕ) → p ≡ B.Refused k → (l : ℕ) → caseLine d l t ≡ wrong k l
-  case-kept k e l = bytes-kept suc (length d + 6) (caseLine d) t p is (told-case d t) k e l
+pub keyed-ends : (d : Name) (t : List ℕ) → Ends here (λ u n. n ≡ length d + 1) (keyed d) t
+keyed-ends d t = ends-after _ _ (name-ends d t) λ u n h. ends-weaker (λ u i e. omega arith) (due-ends (text "=") (drop n t))
 
--- a line of a field, from the answer p of field_line
-module _ (d : Name) (t : List ℕ) (p : ValuePiece) (is : p ≡ asValue (length d + 1) (ended (fieldEntry d) 0 t)) where
-  pub field-took : (v n k w : ℕ) → p ≡ VP.Value v n k → w ≡ n + k + 1 → Valued suc (length d + 1) (ended (fieldEntry d)) t v n k w
-  field-took v n k w e z = value-took suc 1 (length d + 1) (ended (fieldEntry d)) t p is (shown-ended d t) v n k w e z
+pub case-ends : (d : Name) (t : List ℕ) → Ends suc (λ u n. n ≡ length d + 6) (caseLine d) t
+case-ends d t = ends-after _ _ (due-ends (text "case=") t) λ u n h. ended-ends _ (name-ends d (drop n t)) λ u i e. omega arith
 
-  pub field-kept : (k : ℕ) → p ≡ VP.Refused k → (l : ℕ) → ended (fieldEntry d) l t ≡ wrong k l
-  field-kept k e l = value-kept suc 1 (length d + 1) (ended (fieldEntry d)) t p is (shown-ended d t) k e l
+-- by the answer p of the code on the rest u: the piece is read up to the place m, or refused
+module _ {C : Type 0} {to : ℕ → ℕ} {P : Unit {0} → ℕ → Type 0} {r : Reader (Unit {0})} (ends : (u : List ℕ) → Ends to P r u) {x : Got C} (f : Unit {0} → Reader C) {l at : ℕ} {s : List ℕ}
+    (left : Left x (λ l s. after (r l s) f) l at s) (u : List ℕ) (rest : u ≡ drop at s) (p : Bytes) (is : p ≡ asBytes u (r 0 u)) where
+  pub bytes-on : (n m : ℕ) → p ≡ B.Read n → m ≡ at + n → P tt n × Left x (f tt) (to l) m s
+  bytes-on n m e z = let o = left-on bytesKind ends f left u rest p is n (ap (bytesKind .size) e) in (o .holds, rw z (o .left))
 
--- a line of a status, from the answer p of mark_line
-module _ (d : Name) (t : List ℕ) (p : MarkPiece) (is : p ≡ asMark t (ended (statusMark d) 0 t)) where
-  status-ended : Told suc Any (ended (statusMark d)) t
-  status-ended = told-ended Any Any (statusMark d) t (told-status d t) (λ a n h. tt)
+  pub bytes-off : (k : ℕ) → p ≡ B.Refused k → x ≡ wrong k l
+  bytes-off k e = left-off bytesKind ends f left u rest p is k (ap (bytesKind .size) e)
 
-  pub status-took : (b n : ℕ) → p ≡ M.Mark b n → Marked suc (ended (statusMark d)) t b n
-  status-took b n e = mark-took suc (ended (statusMark d)) t p is status-ended b n e
+-- MARKS
+abbrev pub markKind : Kind Bool MarkPiece
+markKind = record { good = λ b n. M.Mark (cond b 2 0) n; bad = M.Refused; size = elim [ M.Mark b n ↦ bytes n | M.Refused k ↦ fault k ]; of-good = λ b n. refl; of-bad = λ k. refl }
 
-  pub status-kept : (k : ℕ) → p ≡ M.Refused k → (l : ℕ) → ended (statusMark d) l t ≡ wrong k l
-  status-kept k e l = mark-kept suc (ended (statusMark d)) t p is status-ended k e l
+pub status-ends : (d : Name) (t : List ℕ) → Ends suc (λ b n. Unit {0}) (ended (statusMark d)) t
+status-ends d t = ended-ends _ (inline-ends (mark-line-built d) t) λ b n h. tt
 
--- a space, `NAME=` and a value, from the answer p of put_piece
-module _ (d : Name) (t : List ℕ) (p : ValuePiece) (is : p ≡ asValue (length d + 2) (spaced d 0 t)) where
-  pub put-took : (v n k w : ℕ) → p ≡ VP.Value v n k → w ≡ n + k → Valued here (length d + 2) (spaced d) t v n k w
-  put-took v n k w e z = value-took here 0 (length d + 2) (spaced d) t p is (shown-spaced d t) v n k w e (omega arith)
+-- VALUES: the text of one stands behind b bytes, and o more follow
+abbrev pub Shown : ℕ → ℕ → Entry → ℕ → Type 0
+Shown b o e n = n ≡ b + length (e .shown) + o
 
-  pub put-kept : (k : ℕ) → p ≡ VP.Refused k → (l : ℕ) → spaced d l t ≡ wrong k l
-  put-kept k e l = value-kept here 0 (length d + 2) (spaced d) t p is (shown-spaced d t) k e l
+pub field-ends : (d : Name) (t : List ℕ) → Ends here (Shown (length d + 1) 0) (fieldEntry d) t
+field-ends d t =
+    ends-weaker (λ e n h. omega (arith, length-append (d ++ text "=") (e .shown), length-append d (text "="))) (spelled-ends (entry-line-built d) (field-spells d) t)
+
+pub spaced-ends : (d : Name) (t : List ℕ) → Ends here (Shown (length d + 2) 0) (spaced d) t
+spaced-ends d t = ends-after _ _ (due-ends (text " ") t) λ u n h. ends-weaker (λ e i g. omega arith) (field-ends d (drop n t))
+
+pub field-line-ends : (d : Name) (t : List ℕ) → Ends suc (Shown (length d + 1) 1) (ended (fieldEntry d)) t
+field-line-ends d t = ended-ends _ (field-ends d t) λ e n h. omega arith
+
+-- the entry for which value, place and length stand
+pub record Valued (to : ℕ → ℕ) (b : ℕ) (r : Reader Entry) (t : List ℕ) (v n k w : ℕ) : Type 0 where
+  pub entry : Entry
+  pub value : v ≡ coded (entry .value)
+  pub place : n ≡ b
+  pub size : k ≡ length (entry .shown)
+  pub within : w ≤ length t
+  pub is : (l : ℕ) → r l t ≡ got entry (to l) (drop w t)
+
+-- what an answer tells
+abbrev Tells : (ℕ → ℕ) → ℕ → ℕ → Reader Entry → List ℕ → ValuePiece → Type 0
+Tells to b o r t (VP.Value v n k) = Valued to b r t v n k (n + k + o)
+Tells to b o r t (VP.Refused k) = (l : ℕ) → r l t ≡ wrong k l
+
+module _ {to : ℕ → ℕ} (b o : ℕ) {r : Reader Entry} {t : List ℕ} where
+  value-tells : Ends to (Shown b o) r t → Tells to b o r t (asValue b (r 0 t))
+  value-tells (Ends.found e i h w q) = rw (q 0) (record { entry = e; value = refl; place = refl; size = refl; within = rw (← h) w; is = rw (← h) q })
+  value-tells (Ends.faulty k q) = rw (q 0) q
+
+  module _ (ends : Ends to (Shown b o) r t) (p : ValuePiece) (is : p ≡ asValue b (r 0 t)) where
+    pub value-took : (v n k w : ℕ) → p ≡ VP.Value v n k → w ≡ n + k + o → Valued to b r t v n k w
+    value-took v n k w e z = rw z (subst (Tells to b o r t) (sym is ∙ e) (value-tells ends))
+
+    pub value-kept : (k : ℕ) → p ≡ VP.Refused k → (l : ℕ) → r l t ≡ wrong k l
+    value-kept k e = subst (Tells to b o r t) (sym is ∙ e) (value-tells ends)

@@ -1,4 +1,3 @@
--- Readers of pieces and lines, what the code's answers tell of them, and what callers use:
-pub mod Told
-pub mod Pieces
+-- What callers use, and pieces and lines as the code answers them:
 pub mod Callers
+pub mod Pieces

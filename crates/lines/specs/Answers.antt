@@ -1,5 +1,5 @@
 -- What the code answers for what the meaning reads: one function for each type of answer.
-use Prim.Native.Nat.{ℕ, _-_}
+use Prim.Native.Nat.{ℕ}
 use mathlib.Core.Bool.{Bool, cond}
 use mathlib.Core.List.{List}
 use lib.ListN.{length}
@@ -9,6 +9,7 @@ use Rattle.meaning.specs.Reading.{Got, got, wrong, Reader, after, due}
 use Rattle.meaning.specs.Name.{Name, dueName}
 use Rattle.meaning.specs.Number.{Entry}
 use Rattle.meaning.specs.Card.{fieldEntry, ended}
+use Rattle.theory.specs.Answer.{asRead}
 use Rattle.text.specs.declared.Bytes.{Bytes}
 use Rattle.text.specs.declared.Bytes.the-variants as B
 use Rattle.number.specs.Answers.{coded}
@@ -29,15 +30,15 @@ entryFault (E.Entry v n) = 0
 entryFault (E.Refused k) = k
 
 -- the name that is due, and `=`
-unfoldable pub keyed : Name → Reader (Unit {0})
+abbrev pub keyed : Name → Reader (Unit {0})
 keyed n l s = after (dueName n l s) (λ _. due LINE (text "="))
 
 -- a space, `NAME=` and a value
-unfoldable pub spaced : Name → Reader Entry
+abbrev pub spaced : Name → Reader Entry
 spaced n l s = after (due LINE (text " ") l s) (λ _. fieldEntry n)
 
 -- the first line of a card
-unfoldable pub caseLine : Name → Reader (Unit {0})
+abbrev pub caseLine : Name → Reader (Unit {0})
 caseLine n l s = after (due LINE (text "case=") l s) (λ _. ended (dueName n))
 
 -- a value of s, that stands behind so many bytes, and the length of its text
@@ -47,5 +48,4 @@ asValue n (wrong k l) = VP.Refused k
 
 -- the mark of a status, and the bytes that it took
 abbrev pub asMark : List ℕ → Got Bool → MarkPiece
-asMark s (got b l t) = M.Mark (cond b 2 0) (length s - length t)
-asMark s (wrong k l) = M.Refused k
+asMark = asRead (λ b n. M.Mark (cond b 2 0) n) M.Refused

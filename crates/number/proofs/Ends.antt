@@ -1,17 +1,18 @@
 -- The last line: the key, the count, the LF and nothing behind it, in the form in which `is_count`, `closing` and `end_line` need it.
-use mathlib.Core.Path.{_≡_, refl, sym, _∙_}
+use mathlib.Core.Path.{_≡_, sym, _∙_}
 use mathlib.Core.Bool.{Bool, true, false, not}
-use mathlib.Core.List.{List, [], _∷_}
-use Prim.Native.Nat.{ℕ, suc, _+_, _-_, _<_, _≤_}
+use mathlib.Core.List.{List}
+use Prim.Native.Nat.{ℕ, _+_, _-_, _<_, _≤_}
 use native.Mathlib.Omega.{arith}
-use borrow.Author.Tests.{eq-eqb, ne-eqb, eqb-true, eqb-false, not-true, not-false}
+use borrow.Author.Tests.{ne-eqb, not-true, not-false}
 use lib.Dec.{eqb}
 use lib.ListN.{length, drop, drop-of-length-le}
 use lib.Seq.{drop-cons}
 use Rattle.meaning.specs.Text.{begins, text}
-use Rattle.meaning.specs.Reading.{wrong, due, lineEnd, paperEnd, after, demand}
+use Rattle.meaning.specs.Reading.{paperEnd, after, demand}
 use Rattle.meaning.specs.Number.{number, endLine}
-use Rattle.text.proofs.Callers.{begins-fits, due-ended, due-here, due-not, line-end-ended, line-end-here, line-end-not}
+use Rattle.theory.specs.Lists.{eqb-alike}
+use Rattle.text.proofs.Callers.{begins-fits, due-here, due-off, line-end-here, line-end-off}
 use Rattle.number.specs.Answers.{asNumber, asEnd}
 use Rattle.number.specs.Ending.{closed}
 use Rattle.number.specs.declared.NumberPiece.{NumberPiece}
@@ -25,52 +26,33 @@ pub count-below : (v c : ℕ) → v < 1000000000 → false ≡ eqb v (1000000000
 count-below v c h = sym (ne-eqb v (1000000000 + c) (λ e. omega arith))
 
 pub count-same : (v c : ℕ) → 1000000000 ≤ v → eqb (v - 1000000000) c ≡ eqb v (1000000000 + c)
-count-same v c h = go (eqb (v - 1000000000) c) refl
-  where
-    go : (b : Bool) → eqb (v - 1000000000) c ≡ b → b ≡ eqb v (1000000000 + c)
-    go true e = sym (eq-eqb v (1000000000 + c) (omega (arith, eqb-true (v - 1000000000) c e)))
-    go false e = sym (ne-eqb v (1000000000 + c) (λ q. eqb-false (v - 1000000000) c e (omega arith)))
+count-same v c h = eqb-alike (v - 1000000000) c v (1000000000 + c) (λ e. omega arith) (λ e. omega arith)
 
 -- behind the count
 module _ (s : List ℕ) (b : Bool) (is : b ≡ begins (text "\n") s) where
   pub closing-other : not b ≡ true → D.Refused 2 0 ≡ asEnd (closed 0 s)
   unfolding closed
-  closing-other t = sym (rw (go s is))
-    where
-      go : (s : List ℕ) → b ≡ begins (text "\n") s → lineEnd 2 0 s ≡ wrong 2 0
-      go [] e = line-end-ended 2 0 [] refl
-      go (x ∷ s) e = line-end-not 2 0 (x ∷ s) (λ h. omega arith) b e (not-true b t)
+  closing-other t = sym (rw (line-end-off 0 s b is (not-true b t)))
 
   module _ (t : not b ≡ false) where
     pub closing-more : (length s ≡ 1 → ⊥) → D.Refused 2 1 ≡ asEnd (closed 0 s)
     unfolding closed paperEnd
-    closing-more h =
-        let some = begins-fits (text "\n") s (sym is ∙ not-false b t) in
-        let long : 1 < length s = omega (arith, h) in
-        sym (rw (line-end-here 2 0 s b is (not-false b t), drop-cons s 1 0 long))
+    closing-more h = sym (rw (line-end-here 2 0 s b is (not-false b t), drop-cons s 1 0 (omega (arith, begins-fits (text "\n") s (sym is ∙ not-false b t)))))
 
     pub closing-done : length s ≡ 1 → D.Done ≡ asEnd (closed 0 s)
     unfolding closed paperEnd
-    closing-done h =
-        let short : length s ≤ 1 = omega arith in
-        sym (rw (line-end-here 2 0 s b is (not-false b t), drop-of-length-le s short))
+    closing-done h = sym (rw (line-end-here 2 0 s b is (not-false b t), drop-of-length-le s {i = 1} (omega arith)))
 
 -- the whole line
 module _ (c : ℕ) (s : List ℕ) (b : Bool) (is : b ≡ begins (text "end=") s) where
   pub line-keyless : not b ≡ true → D.Refused 2 0 ≡ asEnd (endLine c 0 s)
   unfolding endLine
-  line-keyless t = sym (rw (go s is))
-    where
-      go : (s : List ℕ) → b ≡ begins (text "end=") s → due 2 (text "end=") 0 s ≡ wrong 2 0
-      go [] e = due-ended 2 (text "end=") 0 [] refl
-      go (x ∷ s) e = due-not 2 (text "end=") 0 (x ∷ s) (λ h. omega arith) b e (not-true b t)
+  line-keyless t = sym (rw (due-off (text "end=") 0 s b is (not-true b t)))
 
   module _ (t : not b ≡ false) (u : List ℕ) (p : NumberPiece) (at : u ≡ drop 4 s) (told : p ≡ asNumber (number 0 u)) where
     keyed : endLine c 0 s ≡ after (number 0 u) (λ w k s. after (demand 2 (eqb (w .at) (1000000000 + c)) k s) (λ _. closed))
     unfolding endLine closed
-    keyed =
-        let some : length s ≡ 0 → ⊥ = λ h. omega (arith, begins-fits (text "end=") s (sym is ∙ not-false b t)) in
-        rw (due-here 2 (text "end=") 0 s some b is (not-false b t), at)
+    keyed = rw (due-here 2 (text "end=") 0 s (λ h. omega (arith, begins-fits (text "end=") s (sym is ∙ not-false b t))) b is (not-false b t), at)
 
     pub line-refused : (k : ℕ) → p ≡ N.Refused k → D.Refused k 0 ≡ asEnd (endLine c 0 s)
     line-refused k q = sym (rw (keyed, number-wrong u p told k q 0))

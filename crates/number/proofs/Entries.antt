@@ -1,24 +1,23 @@
 -- Values, from the answer on the number, in the form in which `entry_piece` needs them.
 use mathlib.Core.Path.{_≡_, refl, sym, _∙_, ap}
 use mathlib.Core.List.{List, [], _∷_}
-use Prim.Native.Nat.{ℕ, suc, _+_}
+use Prim.Native.Nat.{ℕ, _+_}
 use native.Mathlib.Omega.{arith}
 use native.Mathlib.Numerals.{add-one}
 use borrow.Author.Tests.{ne-eqb}
 use mir.Val.{Fits}
 use mir.Syntax.{w64}
 use lib.ListN.{length, drop, getD}
+use lib.Seq.{drop-cons, length-take-le}
 use Rattle.meaning.specs.Text.{begins}
-use Rattle.meaning.specs.Reading.{Got, got, wrong, notEnded, stands, after, give}
-use Rattle.meaning.specs.Number.{Written, number, entry, number-at}
+use Rattle.meaning.specs.Reading.{notEnded, stands, after, give}
+use Rattle.meaning.specs.Number.{number, entry, number-at}
 use Rattle.theory.specs.Told.{notEnded-none}
 use Rattle.number.specs.Answers.{asNumber, asEntry}
 use Rattle.number.specs.declared.NumberPiece.{NumberPiece}
 use Rattle.number.specs.declared.NumberPiece.the-variants as N
-use Rattle.number.specs.declared.EntryPiece.{EntryPiece}
 use Rattle.number.specs.declared.EntryPiece.the-variants as E
-use Rattle.number.proofs.Callers.{number-small}
-use Rattle.number.proofs.Numbers.{first-byte}
+use Rattle.number.proofs.Callers.{number-wrong, number-got, number-fits, number-small}
 
 pub entry-ended : (s : List ℕ) → length s ≡ 0 → E.Refused 2 ≡ asEntry (entry 0 s)
 unfolding entry
@@ -26,21 +25,12 @@ entry-ended s h = sym (rw (notEnded-none 0 s h))
 
 pub entry-missing : (s : List ℕ) → (length s ≡ 0 → ⊥) → getD s 0 0 ≡ 63 → E.Entry 0 1 ≡ asEntry (entry 0 s)
 unfolding entry notEnded stands begins
-entry-missing s h e = ap (λ u. asEntry (entry 0 u)) (sym (first-byte s h ∙ ap (λ x. x ∷ drop 1 s) e))
+entry-missing s h e = ap (λ u. asEntry (entry 0 u)) (sym (drop-cons s 0 0 (omega arith) ∙ ap (λ x. x ∷ drop 1 s) e))
 
--- what the answer on a number becomes
-abbrev entered : NumberPiece → EntryPiece
-entered (N.Number v n) = E.Entry (suc v) n
-entered (N.Refused k) = E.Refused k
-
-entry-is : (s : List ℕ) → (length s ≡ 0 → ⊥) → (getD s 0 0 ≡ 63 → ⊥) → asEntry (entry 0 s) ≡ entered (asNumber (number 0 s))
+entry-is : (s : List ℕ) → (length s ≡ 0 → ⊥) → (getD s 0 0 ≡ 63 → ⊥) → entry 0 s ≡ after (number 0 s) (λ n. give (record { shown = n .shown; value = number-at (n .at) }))
 unfolding entry notEnded stands begins
 entry-is [] h o = absurd (h refl)
-entry-is (x ∷ s) h o = rw (ne-eqb x 63 o, begins) (go (number 0 (x ∷ s)))
-  where
-    go : (g : Got Written) → asEntry (after g (λ n. give (record { shown = n .shown; value = number-at (n .at) }))) ≡ entered (asNumber g)
-    go (got w l t) = refl
-    go (wrong k l) = refl
+entry-is (x ∷ s) h o = rw (ne-eqb x 63 o, begins)
 
 module _ (s : List ℕ) (p : NumberPiece) (is : p ≡ asNumber (number 0 s)) where
   pub entry-room : (v n : ℕ) → p ≡ N.Number v n → (w : ℕ) → w ≡ v + 1 → Fits w64 w
@@ -48,9 +38,9 @@ module _ (s : List ℕ) (p : NumberPiece) (is : p ≡ asNumber (number 0 s)) whe
 
   module _ (begun : length s ≡ 0 → ⊥) (other : getD s 0 0 ≡ 63 → ⊥) where
     pub entry-refused : (k : ℕ) → p ≡ N.Refused k → E.Refused k ≡ asEntry (entry 0 s)
-    entry-refused k q = sym (entry-is s begun other ∙ rw (← is, q))
+    entry-refused k q = sym (rw (entry-is s begun other, number-wrong s p is k q 0))
 
     pub entry-read : (v n : ℕ) → p ≡ N.Number v n → (w : ℕ) → w ≡ v + 1 → E.Entry w n ≡ asEntry (entry 0 s)
-    entry-read v n q w e = sym (entry-is s begun other ∙ rw (← is, q, e, add-one))
+    entry-read v n q w e = sym (rw (entry-is s begun other, number-got s p is v n q 0, length-take-le n s (number-fits s p is v n q), e, add-one))
 
 pub ruleset entering = (entry-ended, entry-missing, entry-room, entry-refused, entry-read)

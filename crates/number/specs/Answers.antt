@@ -1,8 +1,8 @@
 -- What the code answers for what the meaning reads: one function for each type of answer.
 use Prim.Native.Nat.{ℕ, zero, suc}
-use lib.ListN.{length}
 use Rattle.meaning.specs.Reading.{Got, got, wrong}
 use Rattle.meaning.specs.Number.{Written, Value, missing, number-at, Entry}
+use Rattle.theory.specs.Answer.{asShown}
 use Rattle.number.specs.declared.NumberPiece.{NumberPiece}
 use Rattle.number.specs.declared.NumberPiece.the-variants as N
 use Rattle.number.specs.declared.EntryPiece.{EntryPiece}
@@ -12,8 +12,7 @@ use Rattle.number.specs.declared.End.the-variants as D
 
 -- a number: its place, and the length of its text
 abbrev pub asNumber : Got Written → NumberPiece
-asNumber (got w l t) = N.Number (w .at) (length (w .shown))
-asNumber (wrong n l) = N.Refused n
+asNumber = asShown (λ w. w .shown) (λ w n. N.Number (w .at) n) N.Refused
 
 -- a value in one number: 0 for `?`, otherwise the place and 1 more
 abbrev pub coded : Value → ℕ
@@ -27,8 +26,7 @@ valueOf (suc v) = number-at v
 
 -- an entry: its value, and the length of its text
 abbrev pub asEntry : Got Entry → EntryPiece
-asEntry (got e l t) = E.Entry (coded (e .value)) (length (e .shown))
-asEntry (wrong n l) = E.Refused n
+asEntry = asShown (λ e. e .shown) (λ e n. E.Entry (coded (e .value)) n) E.Refused
 
 -- the last line, read as line 0
 abbrev pub asEnd : Got (Unit {0}) → End

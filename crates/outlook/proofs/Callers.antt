@@ -30,7 +30,8 @@ use Rattle.tables.proofs.Tables.{sized}
 use Rattle.tables.proofs.Padded.{padded-at, padded-take}
 use Rattle.card.specs.Answers.{markCode, asCard, valueCodes}
 use Rattle.card.specs.Parts.{sideOf}
-use Rattle.rules.specs.Answers.{wordsOf, allWords}
+use Rattle.rule.specs.Answers.{wordsOf}
+use Rattle.rules.specs.Answers.{allWords}
 use Rattle.step.specs.Run.{runOver}
 use Rattle.moment.proofs.Callers.{pattern-side}
 use Rattle.cuts.specs.Codes.{cutCodes}

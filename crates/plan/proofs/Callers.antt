@@ -12,8 +12,8 @@ use borrow.Author.Tests.{eqb-true}
 use Rattle.meaning.specs.Text.{In, keep, joined}
 use Rattle.theory.specs.Lists.{Once}
 use Rattle.tables.specs.Heads.{padded}
-use Rattle.rules.specs.declared.Rule.{Rule}
-use Rattle.rules.specs.Answers.{noRule, nodeOf}
+use Rattle.rule.specs.declared.Rule.{Rule}
+use Rattle.rule.specs.Answers.{noRule, nodeOf}
 use Rattle.plan.specs.Plan.{groupOf, listedBy, endsFrom, asPlan}
 use Rattle.plan.proofs.Laws.{group-hit, group-miss, ends-length}
 

@@ -14,8 +14,8 @@ use lib.ListN.{length, length-map, length-take, length-set, drop-of-length-le, g
 use lib.Seq.{sets, sets-eq, take-nil, take-all, take-take, drop-cons, getD-take}
 use borrow.Author.Tests.{eq-eqb, ne-eqb, lt-ltb, le-ltb, ltb-true, not-true, not-false}
 use Rattle.meaning.specs.Text.{keep, joined}
-use Rattle.rules.specs.declared.Rule.{Rule}
-use Rattle.rules.specs.Answers.{noRule, nodeOf}
+use Rattle.rule.specs.declared.Rule.{Rule}
+use Rattle.rule.specs.Answers.{noRule, nodeOf}
 use Rattle.tables.specs.Heads.{padded}
 use Rattle.plan.specs.declared.Listed.{Listed}
 use Rattle.plan.specs.Plan.{groupOf, listedBy, endsFrom, asPlan}

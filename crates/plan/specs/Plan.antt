@@ -5,8 +5,8 @@ use lib.Dec.{eqb}
 use lib.ListN.{length, take, replicate}
 use Rattle.meaning.specs.Text.{keep, joined}
 use Rattle.tables.specs.Heads.{padded}
-use Rattle.rules.specs.declared.Rule.{Rule}
-use Rattle.rules.specs.Answers.{noRule, nodeOf}
+use Rattle.rule.specs.declared.Rule.{Rule}
+use Rattle.rule.specs.Answers.{noRule, nodeOf}
 use Rattle.plan.specs.declared.Plan.{Plan}
 
 -- the rules of a node, in sheet order

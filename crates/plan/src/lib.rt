@@ -4,10 +4,10 @@ ghost use Prim.Native.Nat.{_≤_, _<_, min};
 ghost use mathlib.Core.Bool.{_&&_};
 ghost use lib.Dec.{eqb, ltb};
 ghost use lib.ListN.{length, take};
-ghost use Rattle.rules.specs.Answers.{noRule, nodeOf};
+ghost use Rattle.rule.specs.Answers.{noRule, nodeOf};
 ghost use Rattle.plan.specs.Plan.{groupOf, asPlan};
 ghost use Rattle.plan.specs.Listed.{noneListed, addAll};
-use rules::Rule;
+use rule::Rule;
 use rules::Rules;
 use trigger::Trigger;
 

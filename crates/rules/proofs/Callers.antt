@@ -1,7 +1,6 @@
 -- For callers: what the answer for the rules tells of the meaning, at every line and for every text.
 use Prim.Native.Nat.{ℕ, _+_, _≤_}
 use mathlib.Core.Path.{_≡_, refl, _∙_, ap}
-use mathlib.Core.Bool.{cond}
 use mathlib.Core.List.{List, []}
 use native.Mathlib.Omega.{arith}
 use lib.ListN.{length, take}
@@ -13,19 +12,18 @@ use Rattle.meaning.specs.Name.{Name}
 use Rattle.meaning.specs.Number.{endLine}
 use Rattle.meaning.specs.Sheet as M
 use Rattle.meaning.specs.ReadSheet.{section, ruleRow, rulesOf}
-use Rattle.meaning.specs.Dependency.{up, down, node, consequent}
 use Rattle.theory.specs.BuiltPapers.{rules-built}
-use Rattle.theory.specs.Faults.{built-faulty}
+use Rattle.theory.specs.Faults.{told-got, told-wrong}
 use Rattle.theory.specs.Shift.{built-shifts}
 use Rattle.number.specs.Answers.{asEnd}
 use Rattle.number.specs.declared.End.{End}
 use Rattle.number.specs.declared.End.the-variants as D
 use Rattle.number.proofs.Callers.{end-got, end-wrong}
-use Rattle.trigger.specs.Answers.{isPlus}
 use Rattle.tables.proofs.Padded.{padded-take}
 use Rattle.rules.proofs.Scan.{rows-count}
 use Rattle.rules.specs.declared.RulesRead.{RulesRead}
-use Rattle.rules.specs.Answers.{nodeOf, noRule, asRule, asRows, allWords, asRules, asRulesRead, wordsSpace}
+use Rattle.rule.specs.Answers.{noRule}
+use Rattle.rules.specs.Answers.{asRows, allWords, asRules, asRulesRead, wordsSpace}
 
 -- nothing is left behind the rules
 abbrev Closed : {A : Type 0} → Got A → Type 0
@@ -62,21 +60,10 @@ module _ (fs es ss : List Name) (t : List ℕ) where
   module _ (r : RulesRead) (is : r ≡ asRulesRead (rulesOf fs es ss 0 t)) where
     -- number 0: the rules were read to the end of the paper
     pub rules-got : r .number ≡ 0 → RulesGot r
-    rules-got z = go (rulesOf fs es ss 0 t) refl
-      where
-        go : (g : Got (List M.Rule)) → rulesOf fs es ss 0 t ≡ g → RulesGot r
-        go (got rs k v) e =
-            let c : v ≡ [] = rw e at rules-closed in
-            record {
-              value = rs;
-              last = λ l. l + k;
-              reads = λ l. built-shifts (rules-built fs es ss) l t ∙ rw (e, c);
-              table = ap (λ (r : RulesRead). r .rules) (is ∙ ap asRulesRead e);
-            }
-        go (wrong n k) e =
-            let h : 2 ≤ n = (rw e at (built-faulty (rules-built fs es ss) 0 t)) .0 in
-            let q : r .number ≡ n = ap (λ (r : RulesRead). r .number) (is ∙ ap asRulesRead e) in
-            absurd (omega arith)
+    rules-got z =
+        let (rs, k, v, e, q) = told-got asRulesRead (λ r. r .number) (λ r. r .line) (λ a l t. refl) (λ n l. (refl, refl)) (rules-built fs es ss) 0 t r is z in
+        let c : v ≡ [] = rw e at rules-closed in
+        record { value = rs; last = λ l. l + k; reads = λ l. built-shifts (rules-built fs es ss) l t ∙ rw (e, c); table = ap (λ (r : RulesRead). r .rules) q }
 
     -- then the lent words are those of all conditions
     pub rules-words : (z : r .number ≡ 0) (was now : List ℕ) → now ≡ wordsSpace was (rulesOf fs es ss 0 t) → now ≡ sets was 0 (allWords (rules-got z .value))
@@ -84,22 +71,7 @@ module _ (fs es ss : List Name) (t : List ℕ) where
 
     -- another number: the refusal's, and its line
     pub rules-wrong : (r .number ≡ 0 → ⊥) → (l : ℕ) → rulesOf fs es ss l t ≡ wrong (r .number) (l + r .line)
-    rules-wrong z l = go (rulesOf fs es ss 0 t) refl
-      where
-        go : (g : Got (List M.Rule)) → rulesOf fs es ss 0 t ≡ g → rulesOf fs es ss l t ≡ wrong (r .number) (l + r .line)
-        go (got rs k v) e = absurd (z (ap (λ (r : RulesRead). r .number) (is ∙ ap asRulesRead e)))
-        go (wrong n k) e =
-            let q : r ≡ asRulesRead (wrong n k) = is ∙ ap asRulesRead e in
-            built-shifts (rules-built fs es ss) l t ∙ rw (e, q)
-
--- the node that a rule's row tells is that of its consequent
-pub node-same : (top : ℕ) (r : M.Rule) → nodeOf (asRule top r) ≡ consequent r
-unfolding asRule consequent
-node-same top r = go (r .sign)
-  where
-    go : (g : M.Sign) → cond (isPlus g) (up (r .status)) (down (r .status)) ≡ node g (r .status)
-    go M.plus = refl
-    go M.minus = refl
+    rules-wrong z l = built-shifts (rules-built fs es ss) l t ∙ rw (told-wrong asRulesRead (λ r. r .number) (λ r. r .line) (λ a l t. refl) (λ n l. (refl, refl)) (rules-built fs es ss) 0 t r is z)
 
 -- the rules that were read, without what stands behind them
 pub rows-taken : (rs : List M.Rule) → take (asRules rs .count) (asRules rs .rows) ≡ asRows 0 rs

@@ -1,7 +1,4 @@
--- Laws of the rules' readers:
-pub mod Endings
-pub mod Rows
-pub mod Cleared
+-- The scan over the rules' lines, all rules with the last line, and what callers use:
 pub mod Scan
 pub mod Whole
 pub mod Callers

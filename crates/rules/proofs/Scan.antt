@@ -22,15 +22,16 @@ use Rattle.text.proofs.Callers.{begins-fits}
 use Rattle.tables.specs.Heads.{padded}
 use Rattle.tables.proofs.Padded.{padded-set}
 use Rattle.theory.specs.Lists.{sets-append}
-use Rattle.trigger.proofs.Answered.{behind, Ends}
+use Rattle.theory.specs.Answered.{behind}
+use Rattle.rule.specs.declared.Row.{Row}
+use Rattle.rule.specs.declared.RowRead.{RowRead}
+use Rattle.rule.specs.declared.RowRead.the-variants as R
+use Rattle.rule.specs.Answers.{wordsOf, asRule, noRule, Room, row, asRow, ruleSpace}
+use Rattle.rule.proofs.Callers.{row-is, Rowed, row-wrong, row-got}
 use Rattle.rules.specs.declared.Rules.{Rules}
-use Rattle.rules.specs.declared.Row.{Row}
-use Rattle.rules.specs.declared.RowRead.{RowRead}
-use Rattle.rules.specs.declared.RowRead.the-variants as R
 use Rattle.rules.specs.declared.RowsRead.{RowsRead}
-use Rattle.rules.specs.Answers.{wordsOf, asRule, asRows, allWords, noRule, asRules}
-use Rattle.rules.specs.Parts.{Room, row, asRow, Stored, RowsAs}
-use Rattle.rules.proofs.Rows.{FewRule, row-is, lined-row, Rowed, rowed, unrowed}
+use Rattle.rules.specs.Answers.{asRows, allWords, asRules}
+use Rattle.rules.specs.Parts.{RowsAs}
 
 -- A RULE MORE
 abbrev ws : M.Rule → List ℕ
@@ -142,12 +143,9 @@ module _ (fs es ss s was : List ℕ) where
 
         module _ (less : rules .count < 128) (x : ℕ) (next : x ≡ at + 5) (u : List ℕ) (from : u ≡ drop x s) (r : RowRead)
             (told : r ≡ asRow u (rules .top) (rules .leaves) (row (map named fs) (map named es) (map named ss) (rules .leaves) 0 u)) (now′ : List ℕ)
-            (store : Stored ws now now′ (rules .top) (row (map named fs) (map named es) (map named ss) (rules .leaves) 0 u)) where
+            (store : now′ ≡ ruleSpace now (rules .top) (row (map named fs) (map named es) (map named ss) (rules .leaves) 0 u)) where
           few-leaves : rules .leaves ≤ 512
           few-leaves = omega (arith, leafed, g .few)
-
-          lined : Ends (FewRule (rules .leaves)) suc (row (map named fs) (map named es) (map named ss) (rules .leaves)) u
-          lined = lined-row fs es ss (rules .leaves) few-leaves u
 
           -- the meaning's reader of this row
           read-row : (l : ℕ) (q : Got M.Rule) → row (map named fs) (map named es) (map named ss) (rules .leaves) l u ≡ q
@@ -156,15 +154,14 @@ module _ (fs es ss s was : List ℕ) where
               let d : drop 5 (drop at s) ≡ u = rw (drop-drop 5 at s, from, next) in
               rw d (row-is (map named fs) (map named es) (map named ss) (g .so) l u ∙ rw (← leafed) h)
 
-          pub rows-wrong : (k : ℕ) → r ≡ R.Refused k → (v : RowsRead) → v .number ≡ k → v .rules .count ≡ rules .count → RowsAs s was now′ v (lines 128 [] 0 s)
-          rows-wrong k f v i c =
-              let e = unrowed (row (map named fs) (map named es) (map named ss) (rules .leaves)) u (rules .top) (rules .leaves) lined r told k f in
-              let w : length now′ ≡ length now = rw (e 0) at store in
-              rw (g .same, section-wrong (text "rule=") (ruleRow (map named fs) (map named es) (map named ss)) (g .so) (length (g .so)) (drop at s) key (128 - length (g .so)) (omega (arith, counted)) k (length (g .so)) (read-row (length (g .so)) _ (e (length (g .so)))))
-              (record { number = i; line = c ∙ counted; kept = w ∙ going-length })
+          pub rows-wrong : (k : ℕ) → r ≡ R.Refused k → length now′ ≡ length now → (v : RowsRead) → v .number ≡ k → v .rules .count ≡ rules .count → RowsAs s was now′ v (lines 128 [] 0 s)
+          rows-wrong k f kept v i c =
+              let e = row-wrong fs es ss u (rules .top) (rules .leaves) few-leaves r told k f (length (g .so)) in
+              rw (g .same, section-wrong (text "rule=") (ruleRow (map named fs) (map named es) (map named ss)) (g .so) (length (g .so)) (drop at s) key (128 - length (g .so)) (omega (arith, counted)) k (length (g .so)) (read-row (length (g .so)) _ e))
+              (record { number = i; line = c ∙ counted; kept = kept ∙ going-length })
 
           taken : (a : Row) → r ≡ R.At a → Rowed (row (map named fs) (map named es) (map named ss) (rules .leaves)) u (rules .top) (rules .leaves) a
-          taken = rowed (row (map named fs) (map named es) (map named ss) (rules .leaves)) u (rules .top) (rules .leaves) lined r told
+          taken = row-got fs es ss u (rules .top) (rules .leaves) few-leaves r told
 
           pub rows-last : (a : Row) → r ≡ R.At a → at + 5 + a .bytes ≤ length s
           rows-last a f = behind s (a .bytes) (at + 5) rows-key (rw (from, next) at (taken a f .within))
@@ -180,7 +177,7 @@ module _ (fs es ss s was : List ℕ) where
               let a4 : a .leaves ≡ length (leaves (g .so)) + length (leavesOf (y .condition)) = h .leaves-is ∙ ap (λ (n : ℕ). n + length (leavesOf (y .condition))) leafed in
               let r1 : rules .rows ≡ asRules (g .so) .rows = ap (λ (r : Rules). r .rows) (g .table) in
               let c1 : c ≡ suc (length (g .so)) = omega (arith, counted) in
-              let w : now′ ≡ sets now (rules .top) (ws y) = rw (h .reads 0) at store in
+              let w : now′ ≡ sets now (rules .top) (ws y) = store ∙ rw (h .reads 0) in
               let full : _≡_ {A = Rules} (record { rows = set (rules .rows) (rules .count) (a .rule); count = c; top = a .top; leaves = a .leaves })
               (record { rows = set (asRules (g .so) .rows) (length (g .so)) (asRule (length (allWords (g .so))) y); count = suc (length (g .so)); top = length (allWords (g .so)) + length (ws y); leaves = length (leaves (g .so)) + length (leavesOf (y .condition)) })
               = cc counted in

@@ -19,16 +19,24 @@ use Rattle.number.specs.Answers.{asEnd}
 use Rattle.number.specs.declared.End.{End}
 use Rattle.number.specs.declared.End.the-variants as D
 use Rattle.number.proofs.Callers.{end-got, end-wrong, end-next}
+use Rattle.item.specs.Answers.{cleared}
+use Rattle.rule.specs.Answers.{Room}
 use Rattle.rules.specs.declared.Rules.{Rules}
 use Rattle.rules.specs.declared.RowsRead.{RowsRead}
 use Rattle.rules.specs.declared.RulesRead.{RulesRead}
 use Rattle.rules.specs.Answers.{allWords, asRules, asRulesRead, wordsSpace, Ready}
-use Rattle.rules.specs.Parts.{Room, AllRead, Stopped, RowsAs}
+use Rattle.rules.specs.Parts.{AllRead, Stopped, RowsAs}
 
 -- a part of a table
 pub part-is : (l : List ℕ) (from n k : ℕ) → k ≡ from + n - from → take k (drop from l) ≡ take n (drop from l)
 part-is l from n k e =
     let z : k ≡ n = omega arith in
+    rw z
+
+-- all words cleared
+cleared-all : (was now : List ℕ) → length now ≡ length was → cleared now 0 ≡ replicate (length was) 0
+cleared-all was now e =
+    let z : length now - 0 ≡ length was = omega arith in
     rw z
 
 -- the parts of the names, and the room for words
@@ -84,8 +92,8 @@ module _ (s was now fs es ss : List ℕ) (rows : RowsRead)
     pub rules-stopped : (none : Rules) → none ≡ asRules [] → record { number = rows .number; line = rows .rules .count; rules = none } ≡ asRulesRead whole
     rules-stopped none e = rw (stopped, e)
 
-    pub rules-stopped-space : (end : List ℕ) → end ≡ replicate (length now) 0 → length now ≡ length was → end ≡ wordsSpace was whole
-    rules-stopped-space end e k = rw stopped (e ∙ rw k)
+    pub rules-stopped-space : (end : List ℕ) → end ≡ cleared now 0 → length now ≡ length was → end ≡ wordsSpace was whole
+    rules-stopped-space end e k = rw stopped (e ∙ cleared-all was now k)
 
   module _ (fine : rows .number ≡ 0) where
     pub record Read : Type 0 where
@@ -139,8 +147,8 @@ module _ (s was now fs es ss : List ℕ) (rows : RowsRead)
             let z : n ≡ length (all-read .value) + o = f ∙ ap (λ (c : ℕ). c + o) (all-read .count) in
             rw (e, z) (sym (ap asRulesRead unended))
 
-        pub rules-unended-space : (end : List ℕ) → end ≡ replicate (length now) 0 → length now ≡ length was → end ≡ wordsSpace was whole
-        rules-unended-space end e k = rw unended (e ∙ rw k)
+        pub rules-unended-space : (end : List ℕ) → end ≡ cleared now 0 → length now ≡ length was → end ≡ wordsSpace was whole
+        rules-unended-space end e k = rw unended (e ∙ cleared-all was now k)
 
         pub rules-line : (n : ℕ) → n ≡ rows .rules .count + o → Fits w64 n
         rules-line n f = omega (arith, all-read .count, all-read .few, end-next (rows .rules .count) u e told k o refused)

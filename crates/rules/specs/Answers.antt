@@ -1,43 +1,19 @@
 -- What the code answers for the rules that the meaning reads, and what the lent words then are.
 use Prim.Native.Nat.{ℕ, _+_, _≤_}
-use mathlib.Core.Bool.{false, cond}
 use mathlib.Core.List.{List, [], _∷_}
-use mathlib.Core.Option.{Option, none, some}
 use lib.ListN.{length, replicate}
 use lib.Seq.{sets}
 use Rattle.meaning.specs.Text.{joined}
 use Rattle.meaning.specs.Reading.{Got, got, wrong}
-use Rattle.meaning.specs.Condition.{Cond}
 use Rattle.meaning.specs.Sheet as M
 use Rattle.meaning.specs.Sheet.{leaves}
-use Rattle.meaning.specs.Dependency.{up, down}
-use Rattle.verdict.specs.Flat.{words}
 use Rattle.tables.specs.Heads.{padded}
-use Rattle.trigger.specs.declared.Trigger.the-variants.{Always}
-use Rattle.trigger.specs.Answers.{isPlus, asTrigger}
-use Rattle.rules.specs.declared.Rule.{Rule}
+use Rattle.rule.specs.declared.Rule.{Rule}
+use Rattle.rule.specs.Answers.{wordsOf, asRule, noRule}
 use Rattle.rules.specs.declared.Rules.{Rules}
 use Rattle.rules.specs.declared.RulesRead.{RulesRead}
 
--- the words of a rule's condition
-unfoldable pub wordsOf : Option Cond → List ℕ
-wordsOf none = []
-wordsOf (some c) = words c
-
--- a rule whose condition's words begin at `top`
-unfoldable pub asRule : ℕ → M.Rule → Rule
-asRule top r = record {
-  plus = isPlus (r .sign);
-  status = r .status;
-  trigger = asTrigger (r .trigger);
-  from = top;
-  to = top + length (wordsOf (r .condition));
-}
-
--- the node that a rule sets
-abbrev pub nodeOf : Rule → ℕ
-nodeOf r = cond (r .plus) (up (r .status)) (down (r .status))
-
+-- the rules, one after another
 unfoldable pub asRows : ℕ → List M.Rule → List Rule
 asRows top [] = []
 asRows top (r ∷ rs) = asRule top r ∷ asRows (top + length (wordsOf (r .condition))) rs
@@ -46,10 +22,7 @@ asRows top (r ∷ rs) = asRule top r ∷ asRows (top + length (wordsOf (r .condi
 unfoldable pub allWords : List M.Rule → List ℕ
 allWords rs = joined (λ r. wordsOf (r .condition)) rs
 
--- a row that is no rule
-abbrev pub noRule : Rule
-noRule = record { plus = false; status = 0; trigger = Always; from = 0; to = 0 }
-
+-- the table
 unfoldable pub asRules : List M.Rule → Rules
 asRules rs = record { rows = padded 128 noRule (asRows 0 rs); count = length rs; top = length (allWords rs); leaves = length (leaves rs) }
 

@@ -1,30 +1,19 @@
-// Reading the rules of a sheet: sign, status, trigger and condition of each line, and the last line `end=`.
-use condition::CondRead;
-use condition::Place;
+// Reading the rules of a sheet, line after line, and the last line `end=`.
 use number::End;
-use text::Bytes;
-use trigger::Start;
-use trigger::StartRead;
+use rule::RowRead;
+use rule::Rule;
 use trigger::Trigger;
 ghost use mathlib.Core.Path.{_≡_};
 ghost use mathlib.Core.Bool.{true, false};
 ghost use mathlib.Core.List.{[], map};
 ghost use Prim.Native.Nat.{_+_, _≤_};
-ghost use lib.ListN.{length, take, drop, replicate};
+ghost use lib.ListN.{length, take, drop};
 ghost use Rattle.meaning.specs.Text.{text, begins};
 ghost use Rattle.meaning.specs.ReadSheet.{ruleRow, section, rulesOf};
 ghost use Rattle.text.specs.Packed.{named};
-ghost use Rattle.rules.specs.Answers.{Ready, asRules, asRulesRead, wordsSpace, wordsOf};
-ghost use Rattle.rules.specs.Parts.{Room, ending, plainEnd, askedEnd, row, asEnding, asRow, rowOf, Fit, Stored, RowsAs};
-
-// A rule: whether it opens its status, and where the words of its condition begin and end; they are none where it has no condition.
-pub struct Rule {
-    pub plus: bool,
-    pub status: u8,
-    pub trigger: Trigger,
-    pub from: u16,
-    pub to: u16,
-}
+ghost use Rattle.rule.specs.Answers.{Room};
+ghost use Rattle.rules.specs.Answers.{Ready, asRules, asRulesRead, wordsSpace};
+ghost use Rattle.rules.specs.Parts.{RowsAs};
 
 // The rules in sheet order, and how many words and leaves their conditions have together.
 pub struct Rules {
@@ -41,19 +30,6 @@ pub struct RulesRead {
     pub rules: Rules,
 }
 
-// A rule, how many bytes its line took behind the key, and the words and leaves that there are behind it.
-struct Row {
-    rule: Rule,
-    bytes: usize,
-    top: usize,
-    leaves: usize,
-}
-
-enum RowRead {
-    At(Row),
-    Refused(u8),
-}
-
 // The rules up to `at`, where their last line is due, and number 0; or a refusal's number, and the rules on the lines before it.
 struct RowsRead {
     number: u8,
@@ -63,128 +39,6 @@ struct RowsRead {
 
 // How many rules a sheet may have.
 const RULES: usize = 128;
-
-// The end of a line without ` if `, which has a trigger then.
-fn plain_end(s: &[u8], top: usize, leaves: usize, on: bool) -> CondRead
-    ensures { λ r. ⌜ r ≡ asEnding (now (s .entry)) top leaves (plainEnd on 0 (now (s .entry))) ⌝ }
-{
-    if !on {
-        return CondRead::Refused(2);
-    }
-    if !text::starts(s, b"\n") {
-        return CondRead::Refused(2);
-    }
-    CondRead::At(Place {
-        bytes: 1,
-        top,
-        leaves,
-    })
-}
-
-// The condition behind ` if `, and the end of its line.
-fn asked_end(
-    s: &[u8],
-    fields: &[u64],
-    statuses: &[u64],
-    words: &mut [u64],
-    top: usize,
-    leaves: usize,
-) -> CondRead
-    requires { ⌜ Room (now fields) [] (now statuses) (now words) top leaves ⌝ }
-    ensures answer { λ r. ⌜ r ≡ asEnding (now (s .entry)) top leaves (askedEnd (map named (now (fields .entry))) (map named (now (statuses .entry))) leaves 0 (now (s .entry))) ⌝ }
-    ensures space { λ r. ⌜ Stored wordsOf (now (words .entry)) (now (words .exit)) top (askedEnd (map named (now (fields .entry))) (map named (now (statuses .entry))) leaves 0 (now (s .entry))) ⌝ }
-{
-    let c = condition::read_condition(s, statuses, fields, words, top, leaves);
-    let CondRead::At(p) = c else {
-        return c;
-    };
-    let e = text::due_text(text::rest(s, p.bytes), b"\n", 5);
-    match e {
-        Bytes::Refused(k) => CondRead::Refused(k),
-        Bytes::Read(n) => CondRead::At(Place {
-            bytes: p.bytes + n,
-            top: p.top,
-            leaves: p.leaves,
-        }),
-    }
-}
-
-// The line from ` if ` on, if it stands there.
-fn read_ending(
-    s: &[u8],
-    fields: &[u64],
-    statuses: &[u64],
-    words: &mut [u64],
-    top: usize,
-    leaves: usize,
-    on: bool,
-) -> CondRead
-    requires { ⌜ Room (now fields) [] (now statuses) (now words) top leaves ⌝ }
-    ensures answer { λ r. ⌜ r ≡ asEnding (now (s .entry)) top leaves (ending (map named (now (fields .entry))) (map named (now (statuses .entry))) on leaves 0 (now (s .entry))) ⌝ }
-    ensures space { λ r. ⌜ Stored wordsOf (now (words .entry)) (now (words .exit)) top (ending (map named (now (fields .entry))) (map named (now (statuses .entry))) on leaves 0 (now (s .entry))) ⌝ }
-{
-    if !text::starts(s, b" if ") {
-        return plain_end(s, top, leaves, on);
-    }
-    let c = asked_end(text::rest(s, 4), fields, statuses, words, top, leaves);
-    let CondRead::At(p) = c else {
-        return c;
-    };
-    CondRead::At(Place {
-        bytes: p.bytes + 4,
-        top: p.top,
-        leaves: p.leaves,
-    })
-}
-
-// The rule that a line's start and its end make, whose words begin at `top`.
-fn made(a: Start, p: Place, top: usize) -> Row
-    requires { ⌜ Fit a p top ⌝ }
-    ensures { λ r. ⌜ r ≡ rowOf a p top ⌝ }
-{
-    let trigger = a.trigger;
-    let rule = Rule {
-        plus: a.plus,
-        status: a.status,
-        trigger,
-        from: top as u16,
-        to: p.top as u16,
-    };
-    Row {
-        rule,
-        bytes: a.bytes + p.bytes,
-        top: p.top,
-        leaves: p.leaves,
-    }
-}
-
-// A rule's line behind its key, where the conditions before it have `top` words and `leaves` leaves.
-fn rule_row(
-    s: &[u8],
-    fields: &[u64],
-    events: &[u64],
-    statuses: &[u64],
-    words: &mut [u64],
-    top: usize,
-    leaves: usize,
-) -> RowRead
-    requires { ⌜ Room (now fields) (now events) (now statuses) (now words) top leaves ⌝ }
-    ensures answer { λ r. ⌜ r ≡ asRow (now (s .entry)) top leaves (row (map named (now (fields .entry))) (map named (now (events .entry))) (map named (now (statuses .entry))) leaves 0 (now (s .entry))) ⌝ }
-    ensures space { λ r. ⌜ Stored (λ a. wordsOf (a .condition)) (now (words .entry)) (now (words .exit)) top (row (map named (now (fields .entry))) (map named (now (events .entry))) (map named (now (statuses .entry))) leaves 0 (now (s .entry))) ⌝ }
-{
-    let b = trigger::read_start(s, events, statuses);
-    match b {
-        StartRead::Refused(k) => RowRead::Refused(k),
-        StartRead::At(a) => {
-            let behind = text::rest(s, a.bytes);
-            let e = read_ending(behind, fields, statuses, words, top, leaves, a.on);
-            match e {
-                CondRead::Refused(k) => RowRead::Refused(k),
-                CondRead::At(p) => RowRead::At(made(a, p, top)),
-            }
-        }
-    }
-}
 
 // Whether the line of a rule begins here.
 fn rule_stands(s: &[u8]) -> bool
@@ -224,7 +78,7 @@ fn read_rows(
         }
         let behind = at + 5;
         let line = text::rest(s, behind);
-        let r = rule_row(
+        let r = rule::read_rule(
             line,
             fields,
             events,
@@ -250,17 +104,6 @@ fn read_rows(
     RowsRead { number, at, rules }
 }
 
-// All words 0.
-fn clear(words: &mut [u64])
-    ensures { λ r. ⌜ now (words .exit) ≡ replicate (length (now (words .entry))) 0 ⌝ }
-{
-    let mut i = 0;
-    while i < words.len() {
-        words[i] = 0;
-        i += 1;
-    }
-}
-
 // The rules and their last line, with a table for each kind of name. Where they are refused, the lent words are cleared.
 fn read_lines(
     s: &[u8],
@@ -277,7 +120,7 @@ fn read_lines(
     let rules = rows.rules;
     let line = rules.count;
     if rows.number != 0 {
-        clear(words);
+        item::clear(words, 0);
         return RulesRead {
             number: rows.number,
             line,
@@ -292,7 +135,7 @@ fn read_lines(
             rules,
         },
         End::Refused(k, next) => {
-            clear(words);
+            item::clear(words, 0);
             RulesRead {
                 number: k,
                 line: line + next,

@@ -13,7 +13,7 @@ use Rattle.tables.specs.declared.Heads.{Heads}
 use Rattle.tables.specs.Heads.{blank}
 use Rattle.fields.specs.declared.HeadsRead.{HeadsRead}
 use Rattle.fields.specs.Answers.{asHeadsRead}
-use Rattle.condition.specs.declared.CondRead.{CondRead}
+use Rattle.item.specs.declared.CondRead.{CondRead}
 use Rattle.condition.specs.Answers.{asCondition, stored}
 use Rattle.rules.specs.declared.Rules.{Rules}
 use Rattle.rules.specs.declared.RulesRead.{RulesRead}

@@ -20,7 +20,8 @@ use Rattle.theory.specs.Formed.{Well}
 use Rattle.number.specs.Answers.{coded}
 use Rattle.tables.specs.Heads.{padded, underCode}
 use Rattle.verdict.specs.Fits.{Fits}
-use Rattle.rules.specs.Answers.{noRule, asRows, allWords, asRules}
+use Rattle.rule.specs.Answers.{noRule}
+use Rattle.rules.specs.Answers.{asRows, allWords, asRules}
 use Rattle.rules.proofs.Scan.{rows-count}
 use Rattle.plan.specs.declared.Plan.{Plan}
 use Rattle.plan.specs.Plan.{groupOf, listedBy, asPlan}

@@ -27,10 +27,11 @@ use Rattle.verdict.specs.Flat.{words}
 use Rattle.verdict.specs.Fits.{Fits}
 use Rattle.verdict.proofs.Size.{words-length}
 use Rattle.verdict.proofs.Callers.{verdict-is, verdict-true}
-use Rattle.rules.specs.declared.Rule.{Rule}
+use Rattle.rule.specs.declared.Rule.{Rule}
 use Rattle.trigger.specs.Answers.{isPlus, asTrigger}
-use Rattle.rules.specs.Answers.{nodeOf, wordsOf, asRule, asRows, allWords}
-use Rattle.rules.proofs.Callers.{node-same as row-node}
+use Rattle.rule.specs.Answers.{nodeOf, wordsOf, asRule}
+use Rattle.rules.specs.Answers.{asRows, allWords}
+use Rattle.rule.proofs.Callers.{node-same as row-node}
 use Rattle.plan.specs.Plan.{groupOf}
 use Rattle.plan.proofs.Laws.{group-hit, group-miss}
 use Rattle.step.specs.Run.{triggerMet, conditionMet, homeMet, parentFell, closes, mayChange, ruleMet, nodeMet}

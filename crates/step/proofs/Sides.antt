@@ -53,15 +53,10 @@ value-at vs f = ap valueOf (padded-at 16 0 (map coded vs) f ∙ List·getD-map c
 
 -- WHAT IS SET
 
-code-cond : (b : Bool) → cond b 2 0 ≡ markCode b
-code-cond true = refl
-code-cond false = refl
-
 -- the mark of a node's status
 pub mark-set : (b : Bool) (k : ℕ) (half : List Bool) → k / 2 < length half → setMark b k (marked half) ≡ marked (setIf b k half)
 unfolding setMark setIf marked
 mark-set true k half h =
     padded-store 32 0 (map markCode half) (k / 2) (cond (rising k) 2 0) (omega (arith, length-map half markCode))
-    ∙ ap (λ n. padded 32 0 (set (map markCode half) (k / 2) n)) (code-cond (rising k))
     ∙ ap (padded 32 0) (sym (map-set markCode half (k / 2) (rising k)))
 mark-set false k half h = refl

@@ -1,6 +1,6 @@
 -- What a step reads of a sheet and a moment: its tables, the words of its conditions, and the marks.
 use Prim.Native.Nat.{ℕ}
-use mathlib.Core.Bool.{Bool, true, false}
+use mathlib.Core.Bool.{Bool, cond}
 use mathlib.Core.List.{List, map}
 use lib.ListN.{length}
 use Rattle.meaning.specs.Sheet.{Sheet, statuses}
@@ -14,8 +14,7 @@ use Rattle.step.specs.Run.{Given}
 
 -- the mark of a status that is no, and of one that is yes
 abbrev pub markCode : Bool → ℕ
-markCode false = 0
-markCode true = 2
+markCode b = cond b 2 0
 
 -- the marks of all statuses
 unfoldable pub marked : List Bool → List ℕ

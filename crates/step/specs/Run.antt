@@ -9,7 +9,7 @@ use Rattle.meaning.specs.Step.{rising}
 use Rattle.verdict.specs.Machine.{verdictOf}
 use Rattle.trigger.specs.declared.Trigger.{Trigger}
 use Rattle.trigger.specs.declared.Trigger.the-variants.{Always, Event, Rise, Fall}
-use Rattle.rules.specs.declared.Rule.{Rule}
+use Rattle.rule.specs.declared.Rule.{Rule}
 use Rattle.plan.specs.declared.Plan.{Plan}
 
 -- a status is yes

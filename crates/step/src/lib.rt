@@ -6,7 +6,7 @@ ghost use lib.ListN.{length, getD, take};
 ghost use Rattle.step.specs.Run.{roseIn, fellIn, triggerMet, conditionMet, overYes, homeMet, parentFell, closes, mayChange, ruleMet, setMark, runOver};
 ghost use Rattle.step.specs.Run as run;
 use plan::Plan;
-use rules::Rule;
+use rule::Rule;
 use trigger::Trigger;
 
 // Marks of the statuses: 0 for no, 2 for yes.

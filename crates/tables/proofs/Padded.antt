@@ -59,28 +59,32 @@ module _ {A : Type 0} (n : ℕ) (d : A) where
   unfolding padded
   padded-part a b c = rw (append-assoc (a ++ b) c, append-assoc a b, drop-append-seam) (take-append-seam b _)
 
+-- the numbers of a list's members: one more
+pub mapped-set : {A : Type 0} (n : ℕ) (f : A → ℕ) (xs : List A) (a : A) → length xs < n → set (padded n 0 (map f xs)) (length xs) (f a) ≡ padded n 0 (map f (xs ++ (a ∷ [])))
+mapped-set n f xs a h = rw (← length-map xs f, padded-set n 0 (map f xs) (f a) (omega (arith, length-map xs f)), map-append f xs (a ∷ []))
+
 -- names that their numbers tell
-pub again-append : (a b : List Name) → Again a → Again b → Again (a ++ b)
-again-append a b h g = rw (map-append packed a b, map-append named, h, g)
-
-pub again-one : (w : Name) → named (packed w) ≡ w → Again (w ∷ [])
-again-one w e = rw e
-
 pub again-more : (ns : List Name) (w : Name) → Again ns → named (packed w) ≡ w → Again (ns ++ (w ∷ []))
-again-more ns w h e = again-append ns (w ∷ []) h (again-one w e)
+again-more ns w h e = rw (map-append packed ns (w ∷ []), map-append named, h, e)
+
+again-behind : (a b : List Name) → Again (a ++ b) → Again b
+again-behind [] b h = h
+again-behind (w ∷ a) b h = again-behind a b (cc)
+
+again-before : (b c : List Name) → Again (b ++ c) → Again b
+again-before [] c h = refl
+again-before (w ∷ b) c h =
+    let e : named (packed w) ≡ w = cc in
+    rw (e, again-before b c (cc))
 
 -- names as an array of their numbers
 pub names-length : (n : ℕ) (ns : List Name) → length ns ≤ n → length (padded n 0 (map packed ns)) ≡ n
 names-length n ns h = padded-length n 0 (map packed ns) (omega (arith, length-map ns packed))
 
-pub names-set : (n : ℕ) (ns : List Name) (w : Name) → length ns < n → set (padded n 0 (map packed ns)) (length ns) (packed w) ≡ padded n 0 (map packed (ns ++ (w ∷ [])))
-names-set n ns w h =
-    let k : length ns ≡ length (map packed ns) = sym (length-map ns packed) in
-    rw (k, padded-set n 0 (map packed ns) (packed w) (omega arith), map-append packed ns (w ∷ []))
-
-pub names-part : (n : ℕ) (a b c : List Name) → Again b → map named (take (length b) (drop (length a) (padded n 0 (map packed (a ++ b ++ c))))) ≡ b
+pub names-part : (n : ℕ) (a b c : List Name) → Again (a ++ b ++ c) → map named (take (length b) (drop (length a) (padded n 0 (map packed (a ++ b ++ c))))) ≡ b
 names-part n a b c h =
-    rw (map-append packed (a ++ b) c, map-append packed a b, ← length-map a packed, ← length-map b packed, padded-part n 0 (map packed a) (map packed b) (map packed c)) h
+    rw (map-append packed (a ++ b) c, map-append packed a b, ← length-map a packed, ← length-map b packed, padded-part n 0 (map packed a) (map packed b) (map packed c))
+    (again-before b c (again-behind a (b ++ c) (rw (append-assoc a b c) at h)))
 
 pub names-all : (n : ℕ) (ns : List Name) → Again ns → map named (take (length ns) (padded n 0 (map packed ns))) ≡ ns
 names-all n ns h = rw (← length-map ns packed, padded-take n 0 (map packed ns)) h

@@ -1,36 +1,32 @@
 -- The tables of a well-formed sheet: they are sized, and they stand for that sheet.
 use Prim.Native.Nat.{ℕ, zero, suc, _+_, _-_, _*_, _<_, _≤_}
-use mathlib.Core.Path.{_≡_, refl, sym, _∙_, ap, subst}
+use mathlib.Core.Path.{_≡_, refl, sym, _∙_, subst}
 use mathlib.Core.Bool.{Bool, true, false, true≢false}
-use mathlib.Core.List.{List, [], _∷_, _++_, map, append-assoc, map-append}
+use mathlib.Core.List.{List, [], _∷_, _++_, map, append-assoc}
 use mathlib.Core.Option.{Option, none, some}
 use mathlib.Core.Logic.{inl, inr, ⊎-elim}
+use native.Mathlib.Nat.{add-zero}
 use native.Mathlib.Omega.{arith}
-use native.Mathlib.Decide.{ℕ-discrete}
-use lib.ListN.{length, take, drop, getD, replicate, length-append, length-map, List·getD-append, List·getD-map}
-use lib.Seq.{take-length, take-append-seam, drop-append-add, getD-append-add}
-use Rattle.meaning.specs.Text.{In, isIn, run, joined, from}
-use Rattle.meaning.specs.Name.{Name, nameByte}
+use lib.ListN.{length, take, drop, getD, length-append, length-map, List·getD-append, List·getD-map}
+use lib.Seq.{take-append-seam, drop-append-add, getD-append-add}
+use Rattle.meaning.specs.Text.{In, isIn, joined, from}
+use Rattle.meaning.specs.Name.{Name}
 use Rattle.meaning.specs.Sheet.{Sheet, Event, Status, eventNames, statusNames, statuses, stageOver}
 use Rattle.meaning.specs.Graph.{without}
 use Rattle.theory.specs.Lists.{in-cases, map-in, Once, is-in, in-is, without-in, once-without, length-without, at-place}
-use Rattle.theory.specs.Names.{Good, good-short, good-plain}
+use Rattle.theory.specs.Names.{Good}
 use Rattle.theory.specs.Formed.{Each, UnderIn, StatusIn, EventIn, Well}
 use Rattle.text.specs.Packed.{packed, named}
-use Rattle.text.proofs.Packs.{Plain, plain-run}
-use Rattle.text.proofs.Callers.{named-packed}
+use Rattle.text.proofs.Callers.{named-packed, good-packable}
 use Rattle.tables.specs.declared.Heads.{Heads}
 use Rattle.tables.specs.Heads.{padded, underCode, underOf, allNames, asHeads, namesAt, eventAt, statusAt, headsOf, Sized, Again}
 use Rattle.tables.proofs.Padded.{padded-length, padded-at, names-part}
 
 -- GOOD NAMES are told by their numbers
 good-again : (w : Name) → Good w → named (packed w) ≡ w
-good-again w g =
-    let e : take (run nameByte w) w ≡ w = rw (good-plain w g) (take-length w) in
-    let p : Plain w = subst Plain e (plain-run w) in
-    named-packed w (record { plain = p; short = good-short w g })
+good-again w g = named-packed w (good-packable w g)
 
-again-each : (ns : List Name) → Each Good ns → Again ns
+pub again-each : (ns : List Name) → Each Good ns → Again ns
 again-each [] h = refl
 again-each (w ∷ ns) h = rw (good-again w (h w (inl refl)), again-each ns (λ x m. h x (inr m)))
 
@@ -42,11 +38,7 @@ mapped-at f k (x ∷ xs) (suc i) h = mapped-at f k xs i (λ y m. h y (inr m))
 
 -- different numbers below m are at most m
 below : (m f : ℕ) → f < suc m → (f ≡ m → ⊥) → f < m
-below m f h ne = go (ℕ-discrete f m)
-  where
-    go : Dec (f ≡ m) → f < m
-    go (yes z) = absurd (ne z)
-    go (no z) = omega arith
+below m f h ne = omega arith
 
 few-below : (m : ℕ) (l : List ℕ) → Once l → Each (λ f. f < m) l → length l ≤ m
 few-below zero [] o h = omega arith
@@ -130,11 +122,8 @@ from-at : {A : Type 0} (g : ℕ → A) (d : A) (xs : List A) (k : ℕ) → ((i :
 unfolding from
 from-at g d [] k h = refl
 from-at g d (x ∷ xs) k h =
-    let e : g k ≡ x = rw (← plus-zero k) (h 0 (omega arith)) in
+    let e : g k ≡ x = rw (← add-zero k) (h 0 (omega arith)) in
     rw (e, from-at g d xs (suc k) (λ i j. let z : suc k + i ≡ k + suc i = omega arith in rw z (h (suc i) (omega arith))))
-  where
-    plus-zero : (k : ℕ) → k + 0 ≡ k
-    plus-zero k = omega arith
 
 code-back : (u : Option ℕ) → underOf (underCode u) ≡ u
 code-back none = refl
@@ -159,7 +148,7 @@ abbrev noStatus : Status
 noStatus = record { name = []; under = none }
 
 module _ (sh : Sheet) (w : Well sh) where
-  all-good : Each Good (allNames sh)
+  pub all-good : Each Good (allNames sh)
   unfolding allNames eventNames statusNames
   all-good n m =
       ⊎-elim
@@ -172,26 +161,19 @@ module _ (sh : Sheet) (w : Well sh) where
 
   names-all : length (allNames sh) ≡ length (sh .fields) + length (sh .events) + length (statuses sh)
   unfolding allNames eventNames statusNames
-  names-all =
-      let a = length-append (sh .fields ++ eventNames (sh .events)) (statusNames (statuses sh)) in
-      let b = length-append (sh .fields) (eventNames (sh .events)) in
-      omega (arith, length-map (sh .events) (λ (x : Event). x .name), length-map (statuses sh) (λ (x : Status). x .name))
+  names-all = simp (length-append, length-map)
 
   event-name : (e : ℕ) → e < length (sh .events) → getD (allNames sh) (length (sh .fields) + e) [] ≡ getD (sh .events) e noEvent .name
   unfolding allNames eventNames
   event-name e h =
-      let a = length-append (sh .fields) (eventNames (sh .events)) in
-      let b = length-map (sh .events) (λ (x : Event). x .name) in
-      let k : length (sh .fields) + e < length (sh .fields ++ eventNames (sh .events)) = omega arith in
+      let k : length (sh .fields) + e < length (sh .fields ++ eventNames (sh .events)) = simp (length-append, length-map) (omega arith) in
       rw (List·getD-append (sh .fields ++ eventNames (sh .events)) (statusNames (statuses sh)) [] (length (sh .fields) + e) k, getD-append-add (sh .fields) (eventNames (sh .events)) e [])
       (List·getD-map (λ (x : Event). x .name) (sh .events) e noEvent)
 
   status-name : (x : ℕ) → getD (allNames sh) (length (sh .fields) + length (sh .events) + x) [] ≡ getD (statuses sh) x noStatus .name
   unfolding allNames statusNames eventNames
   status-name x =
-      let a = length-append (sh .fields) (eventNames (sh .events)) in
-      let b = length-map (sh .events) (λ (x : Event). x .name) in
-      let k : length (sh .fields) + length (sh .events) + x ≡ length (sh .fields ++ eventNames (sh .events)) + x = omega arith in
+      let k : length (sh .fields) + length (sh .events) + x ≡ length (sh .fields ++ eventNames (sh .events)) + x = simp (length-append, length-map) in
       rw (k, getD-append-add (sh .fields ++ eventNames (sh .events)) (statusNames (statuses sh)) x []) (List·getD-map (λ (x : Status). x .name) (statuses sh) x noStatus)
 
   carried-is : (e : ℕ) → e < length (sh .events) → take (length (getD (sh .events) e noEvent .carries)) (drop (16 * e) (tables .carried)) ≡ getD (sh .events) e noEvent .carries
@@ -216,7 +198,7 @@ module _ (sh : Sheet) (w : Well sh) where
 
   fields-again : namesAt tables 0 (length (sh .fields)) ≡ sh .fields
   unfolding namesAt asHeads allNames
-  fields-again = rw (append-assoc (sh .fields)) (names-part 64 [] (sh .fields) (eventNames (sh .events) ++ statusNames (statuses sh)) (again-each (sh .fields) (w .fields)))
+  fields-again = rw (append-assoc (sh .fields)) (names-part 64 [] (sh .fields) (eventNames (sh .events) ++ statusNames (statuses sh)) (rw (append-assoc (sh .fields)) at (again-each (allNames sh) all-good)))
 
   events-again : map (eventAt tables) (from 0 (length (sh .events))) ≡ sh .events
   events-again = from-at (eventAt tables) noEvent (sh .events) 0 (λ i h. let z : 0 + i ≡ i = omega arith in rw z (event-is i h))

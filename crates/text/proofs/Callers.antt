@@ -1,53 +1,72 @@
 -- What a caller may conclude from the answers of this crate, for every line: what was read, and where the rest begins.
-use mathlib.Core.Path.{_≡_, refl, sym, _∙_}
-use mathlib.Core.Bool.{Bool, true, false, not}
-use mathlib.Core.List.{List, [], map, append-nil}
+use mathlib.Core.Path.{_≡_, refl, _∙_, ap}
+use mathlib.Core.List.{List}
 use mathlib.Core.Option.{Option, none, some}
-use Prim.Native.Nat.{ℕ, suc, _-_, _<_, _≤_}
+use Prim.Native.Nat.{ℕ, suc, _+_, _<_, _≤_}
 use native.Mathlib.Omega.{arith}
 use lib.ListN.{length, drop, take}
-use Rattle.meaning.specs.Text.{text, begins, among, find}
-use Rattle.meaning.specs.Reading.{got, wrong, notEnded, stands, due, lineEnd}
+use Rattle.meaning.specs.Text.{text, find}
+use Rattle.meaning.specs.Reading.{Reader, got, wrong, due, lineEnd}
 use Rattle.meaning.specs.Name.{Name, name, newName, placed, known}
-use Rattle.theory.specs.Built.{name-built, newName-built, known-built, notEnded-built}
+use Rattle.theory.specs.Built.{name-built, newName-built}
 use Rattle.theory.specs.Readers.{ensures-weaker}
-use Rattle.theory.specs.Spelling.{Spells, give-spells, bind-spells, demand-spells, name-spells, due-spells}
-use Rattle.theory.specs.Names.{Good, good-short, name-good, newName-new, known-below}
-use Rattle.theory.specs.Told as Told
-use Rattle.theory.specs.Told.{Told, Any, took, told-give, told-choose, told-bind, told-stands, inline-told, told-ensured, spelled-took, notEnded-none, notEnded-some}
+use Rattle.theory.specs.Spelling.{name-spells, newName-spells, due-spells}
+use Rattle.theory.specs.Names.{Good, good-short, name-good, newName-new, find-below}
+pub use Rattle.theory.specs.Told.{begins-fits}
+pub use Rattle.theory.specs.Fixed.{stands-here, stands-not, due-ended, due-here, due-not, due-off, line-end-ended, line-end-here, line-end-not, line-end-off}
+use Rattle.theory.specs.Fixed.{due-ends}
+use Rattle.theory.specs.Told.{Any, spelled-took}
+use Rattle.theory.specs.Answered.{Ends, here, ends-after, Kind, bytes, fault, Found, answered-found, answered-wrong}
+use Rattle.theory.specs.Shown.{Shows, shown-ends, shown-found, shown-wrong}
 use Rattle.text.specs.declared.Bytes.{Bytes}
 use Rattle.text.specs.declared.Bytes.the-variants as B
 use Rattle.text.specs.declared.NamePiece.{NamePiece}
 use Rattle.text.specs.declared.NamePiece.the-variants as N
 use Rattle.text.specs.declared.Known.{Known}
 use Rattle.text.specs.declared.Known.the-variants as K
-use Rattle.text.specs.declared.Found.the-variants as F
 use Rattle.text.specs.Packed.{packed, named}
-use Rattle.text.specs.Answers.{asBytes, asName, asKnown, foundIn}
-use Rattle.text.proofs.Laws as Laws
-use Rattle.text.proofs.Packs as Packs
-use Rattle.text.proofs.Packs.{Packable, placeOf}
-use Rattle.text.proofs.Steps.{Took, Spelt, refused, bytes-refuses, name-refuses, known-refuses, bytes-took, known-took, name-took}
+use Rattle.text.specs.Answers.{asBytes, asName, asKnown}
+pub use Rattle.text.proofs.Laws.{found-within}
+use Rattle.text.proofs.Packs.{Packable}
+pub use Rattle.text.proofs.Packs.{good-packable, named-packed, find-named}
 
--- NAMES AND THEIR NUMBERS, of a packable text w: what a reader of names gave is one
-pub named-packed : (w : List ℕ) → Packable w → named (packed w) ≡ w
-named-packed = Packs.named-packed
+-- THE KINDS OF ANSWERS
+abbrev pub bytesKind : Kind (Unit {0}) Bytes
+bytesKind = record { good = λ u n. B.Read n; bad = B.Refused; size = elim [ B.Read n ↦ bytes n | B.Refused k ↦ fault k ]; of-good = λ u n. refl; of-bad = λ k. refl }
 
-pub find-named : (w : List ℕ) → Packable w → (vs : List ℕ) → find w (map named vs) ≡ placeOf (foundIn (packed w) vs)
-find-named = Packs.find-named
+abbrev pub nameKind : Kind Name NamePiece
+nameKind = record { good = λ w n. N.Name (packed w) n; bad = N.Refused; size = elim [ N.Name v n ↦ bytes n | N.Refused k ↦ fault k ]; of-good = λ w n. refl; of-bad = λ k. refl }
 
--- a place that is found lies in the table
-pub found-within : (v : ℕ) (vs : List ℕ) (i : ℕ) → foundIn v vs ≡ F.At i → i < length vs
-found-within = Laws.found-within
+abbrev pub knownKind : Kind ℕ Known
+knownKind = record { good = K.At; bad = K.Refused; size = elim [ K.At i n ↦ bytes n | K.Refused k ↦ fault k ]; of-good = λ i n. refl; of-bad = λ k. refl }
+
+-- A NAME that was read: its number, and the bytes that were taken
+pub record Spelt (r : Reader Name) (t : List ℕ) (v n : ℕ) : Type 0 where
+  pub packable : Packable (take n t)
+  pub number : v ≡ packed (take n t)
+  pub within : n ≤ length t
+  pub reads : (l : ℕ) → r l t ≡ got (take n t) l (drop n t)
+
+-- by any reader of names
+spelt : {r : Reader Name} → Shows (λ w. w) Good r → (p : NamePiece) (t : List ℕ) → p ≡ asName (r 0 t) → (v n : ℕ) → p ≡ N.Name v n → Spelt r t v n
+spelt {r} h p t is v n e =
+    let f = shown-found nameKind h t p is n (ap (nameKind .size) e) in
+    let same : p ≡ N.Name (packed (take n t)) n = f .same ∙ ap (λ w. N.Name (packed w) n) (f .holds .1) in
+    let number : v ≡ packed (take n t) = cc in
+    let reads : (l : ℕ) → r l t ≡ got (take n t) l (drop n t) = λ l. f .reads l ∙ ap (λ w. got w l (drop n t)) (f .holds .1) in
+    record { packable = rw (f .holds .1) at (good-packable (f .value) (f .holds .0)); number = number; within = f .within; reads = reads }
 
 -- NAMES, from the answer p of name_piece on t
+pub name-shows : Shows (λ w. w) Good name
+name-shows = record { inline = name-built; ensures = name-good; spells = name-spells }
+
 module _ (p : NamePiece) (t : List ℕ) (is : p ≡ asName (name 0 t)) where
   pub name-wrong : (k : ℕ) → p ≡ N.Refused k → (l : ℕ) → name l t ≡ wrong k l
-  name-wrong = refused name-refuses (inline-told name-built t) p is
+  name-wrong k e = shown-wrong nameKind name-shows t p is k (ap (nameKind .size) e)
 
   module _ (v n : ℕ) (told : p ≡ N.Name v n) where
     pub name-spelt : Spelt name t v n
-    name-spelt = name-took name-built name-good name-spells t p is v n told
+    name-spelt = spelt name-shows p t is v n told
 
     pub name-got : (l : ℕ) → name l t ≡ got (take n t) l (drop n t)
     name-got = name-spelt .reads
@@ -58,27 +77,20 @@ module _ (p : NamePiece) (t : List ℕ) (is : p ≡ asName (name 0 t)) where
     pub name-packable : Packable (take n t)
     name-packable = name-spelt .packable
 
-    pub name-named : named v ≡ take n t
-    name-named = rw name-number (Packs.named-packed (take n t) name-packable)
-
     pub name-fits : n ≤ length t
     name-fits = name-spelt .within
 
 -- NEW NAMES, from the answer p of new_name
-new-spells : (used : List Name) → Spells [] (newName used) (λ w. w)
-unfolding newName
-new-spells used =
-    bind-spells name-spells λ w.
-    bind-spells (demand-spells 3 (not (among w used))) λ _.
-    give-spells (append-nil w)
+pub new-shows : (used : List Name) → Shows (λ w. w) Good (newName used)
+new-shows used = record { inline = newName-built used; ensures = ensures-weaker (λ w h. h .0) (newName-new used); spells = newName-spells used }
 
 module _ (p : NamePiece) (used : List (List ℕ)) (t : List ℕ) (is : p ≡ asName (newName used 0 t)) where
   pub new-name-wrong : (k : ℕ) → p ≡ N.Refused k → (l : ℕ) → newName used l t ≡ wrong k l
-  new-name-wrong = refused name-refuses (inline-told (newName-built used) t) p is
+  new-name-wrong k e = shown-wrong nameKind (new-shows used) t p is k (ap (nameKind .size) e)
 
   module _ (v n : ℕ) (told : p ≡ N.Name v n) where
     new-spelt : Spelt (newName used) t v n
-    new-spelt = name-took (newName-built used) (ensures-weaker (λ w h. h .0) (newName-new used)) (new-spells used) t p is v n told
+    new-spelt = spelt (new-shows used) p t is v n told
 
     pub new-name-got : (l : ℕ) → newName used l t ≡ got (take n t) l (drop n t)
     new-name-got = new-spelt .reads
@@ -87,83 +99,53 @@ module _ (p : NamePiece) (used : List (List ℕ)) (t : List ℕ) (is : p ≡ asN
     new-name-number = new-spelt .number
 
     pub new-name-named : named v ≡ take n t
-    new-name-named = rw new-name-number (Packs.named-packed (take n t) (new-spelt .packable))
+    new-name-named = rw new-name-number (named-packed (take n t) (new-spelt .packable))
 
     pub new-name-fits : n ≤ length t
     new-name-fits = new-spelt .within
 
 -- NAMES OF A TABLE, from the answer p of known_name
+pub known-ends : (ns : List Name) (t : List ℕ) → Ends here (λ i n. (i < length ns) × (n ≤ 12)) (known ns) t
+unfolding known
+known-ends ns t = ends-after (λ i n. (i < length ns) × (n ≤ 12)) (λ w. placed (find w ns)) (shown-ends name-shows t) λ w n h.
+    go w n (omega (arith, good-short w (h .0), h .2)) (find w ns) refl
+  where
+    go : (w : Name) (n : ℕ) → n ≤ 12 → (o : Option ℕ) → find w ns ≡ o → Ends here (λ i k. (i < length ns) × (n + k ≤ 12)) (placed o) (drop n t)
+    go w n few none e = Ends.faulty 3 (λ l. refl)
+    go w n few (some i) e = Ends.found i 0 (find-below w ns i e, omega arith) (omega arith) (λ l. refl)
+
 module _ (p : Known) (ns : List (List ℕ)) (t : List ℕ) (is : p ≡ asKnown t (known ns 0 t)) where
   pub known-wrong : (k : ℕ) → p ≡ K.Refused k → (l : ℕ) → known ns l t ≡ wrong k l
-  known-wrong = refused (known-refuses t) (inline-told (known-built ns) t) p is
+  known-wrong k e = answered-wrong knownKind (known-ends ns t) p is k (ap (knownKind .size) e)
 
   module _ (i n : ℕ) (told : p ≡ K.At i n) where
-    known-taken : Took (λ j. j < length ns) (known ns) t i n
-    known-taken = known-took (told-ensured (known-built ns) (known-below ns) t) p is i n told
+    at-place : Found knownKind here (λ i n. (i < length ns) × (n ≤ 12)) (known ns) t p n
+    at-place = answered-found knownKind (known-ends ns t) p is n (ap (knownKind .size) told)
+
+    place-is : at-place .value ≡ i
+    place-is = let z = at-place .same in cc
 
     pub known-got : (l : ℕ) → known ns l t ≡ got i l (drop n t)
-    known-got = known-taken .reads
+    known-got = rw place-is at (at-place .reads)
 
     pub known-place : i < length ns
-    known-place = known-taken .also
+    known-place = rw place-is at (at-place .holds .0)
 
     pub known-fits : n ≤ length t
-    known-fits = known-taken .within
+    known-fits = at-place .within
 
     -- a name is short
     pub known-few : n ≤ 12
-    unfolding known
-    known-few = go (told-ensured name-built name-good t)
-      where
-        few : (m : ℕ) → m ≤ 12 → m ≤ length t → (o : Option ℕ) → p ≡ asKnown t (placed o 0 (drop m t)) → n ≤ 12
-        few m h g none q = let z : _≡_ {A = ℕ} 0 1 = cc in absurd (omega arith)
-        few m h g (some j) q = let z : n ≡ length t - length (drop m t) = cc in omega (arith, took t m g)
+    known-few = at-place .holds .1
 
-        go : Told Good name t → n ≤ 12
-        go (Told.faulty k e) = let q : p ≡ K.Refused k = is ∙ rw (e 0) in let z : _≡_ {A = ℕ} 0 1 = cc in absurd (omega arith)
-        go (Told.found w m h g e) = few m (omega (arith, good-short w h, spelled-took name-spells 0 t w 0 m g (e 0))) g (find w ns) (is ∙ rw (e 0))
-
--- FIXED TEXTS: what begins with a text is as long as it
-pub begins-fits : (k t : List ℕ) → begins k t ≡ true → length k ≤ length t
-begins-fits = Told.begins-fits
-
--- a text that may stand here
-pub stands-here : (k : List ℕ) (l : ℕ) (t : List ℕ) (b : Bool) → b ≡ begins k t → b ≡ true → stands k l t ≡ got true l (drop (length k) t)
-unfolding stands
-stands-here k l t b e q = rw (← e, q)
-
-pub stands-not : (k : List ℕ) (l : ℕ) (t : List ℕ) (b : Bool) → b ≡ begins k t → b ≡ false → stands k l t ≡ got false l t
-unfolding stands
-stands-not k l t b e q = rw (← e, q)
-
--- a text that is due, from the test
-pub due-ended : (n : ℕ) (k : List ℕ) (l : ℕ) (t : List ℕ) → length t ≡ 0 → due n k l t ≡ wrong 2 l
-unfolding due
-due-ended n k l t h = rw (notEnded-none l t h)
-
-pub due-here : (n : ℕ) (k : List ℕ) (l : ℕ) (t : List ℕ) → (length t ≡ 0 → ⊥) → (b : Bool) → b ≡ begins k t → b ≡ true → due n k l t ≡ got tt l (drop (length k) t)
-unfolding due
-due-here n k l t h b e q = rw (notEnded-some l t h, stands-here k l t b e q)
-
-pub due-not : (n : ℕ) (k : List ℕ) (l : ℕ) (t : List ℕ) → (length t ≡ 0 → ⊥) → (b : Bool) → b ≡ begins k t → b ≡ false → due n k l t ≡ wrong n l
-unfolding due
-due-not n k l t h b e q = rw (notEnded-some l t h, stands-not k l t b e q)
-
--- a text that is due, from the answer p of due_text
-told-due : (n : ℕ) (k t : List ℕ) → Told Any (due n k) t
-unfolding due
-told-due n k t =
-    told-bind Any Any notEnded _ t (inline-told notEnded-built t) λ _ u _.
-    told-bind Any Any (stands k) _ u (told-stands k u) λ b s _.
-    told-choose Any b _ _ s (λ _. told-give Any tt s tt) (λ _. Told.faulty n (λ l. refl))
-
+-- FIXED TEXTS, from the answer p of due_text
 module _ (p : Bytes) (n : ℕ) (k t : List ℕ) (is : p ≡ asBytes t (due n k 0 t)) where
   pub due-wrong : (j : ℕ) → p ≡ B.Refused j → (l : ℕ) → due n k l t ≡ wrong j l
-  due-wrong = refused (bytes-refuses t) (told-due n k t) p is
+  due-wrong j e = answered-wrong bytesKind (due-ends n k t) p is j (ap (bytesKind .size) e)
 
   module _ (m : ℕ) (told : p ≡ B.Read m) where
-    text-taken : Took Any (due n k) t tt m
-    text-taken = bytes-took (told-due n k t) p is m told
+    text-taken : Found bytesKind here (λ u m. Any u) (due n k) t p m
+    text-taken = answered-found bytesKind (due-ends n k t) p is m (ap (bytesKind .size) told)
 
     pub due-got : (l : ℕ) → due n k l t ≡ got tt l (drop m t)
     due-got = text-taken .reads
@@ -174,23 +156,7 @@ module _ (p : Bytes) (n : ℕ) (k t : List ℕ) (is : p ≡ asBytes t (due n k 0
     pub due-length : m ≡ length k
     due-length = spelled-took (due-spells n k) 0 t tt 0 m due-fits (due-got 0)
 
--- the end of a line, from the test
-module _ (n l : ℕ) (t : List ℕ) where
-  pub line-end-ended : length t ≡ 0 → lineEnd n l t ≡ wrong 2 l
-  unfolding lineEnd
-  line-end-ended h = rw (due-ended n (text "\n") l t h)
-
-  pub line-end-here : (b : Bool) → b ≡ begins (text "\n") t → b ≡ true → lineEnd n l t ≡ got tt (suc l) (drop 1 t)
-  unfolding lineEnd
-  line-end-here b e q =
-      let some : length t ≡ 0 → ⊥ = λ h. omega (arith, begins-fits (text "\n") t (sym e ∙ q)) in
-      rw (due-here n (text "\n") l t some b e q)
-
-  pub line-end-not : (length t ≡ 0 → ⊥) → (b : Bool) → b ≡ begins (text "\n") t → b ≡ false → lineEnd n l t ≡ wrong n l
-  unfolding lineEnd
-  line-end-not h b e q = rw (due-not n (text "\n") l t h b e q)
-
--- the end of a line, from the answer p of due_text
+-- the end of a line
 module _ (p : Bytes) (n : ℕ) (t : List ℕ) (is : p ≡ asBytes t (due n (text "\n") 0 t)) where
   pub line-end-wrong : (j : ℕ) → p ≡ B.Refused j → (l : ℕ) → lineEnd n l t ≡ wrong j l
   unfolding lineEnd

@@ -3,73 +3,44 @@
 use mathlib.Core.Path.{_≡_, refl, ap, sym, _∙_}
 use mathlib.Core.Bool.{Bool, true, false, not}
 use mathlib.Core.List.{List, [], _∷_}
-use Prim.Native.Nat.{ℕ, zero, suc, _+_, _-_, _<_, _≤_}
+use Prim.Native.Nat.{ℕ, suc, _+_, _-_, _<_, _≤_}
 use native.Mathlib.Omega.{arith}
+use native.Mathlib.Nat.{sub-eq-zero-of-le}
 use native.Mathlib.Numerals.{add-one}
 use borrow.Author.Tests.{eq-eqb, ne-eqb, not-true, not-false}
 use lib.Dec.{eqb}
 use lib.ListN.{length, drop, take, getD, drop-of-length-le, length-drop}
 use lib.Seq.{drop-cons, take-all, take-nil}
 use Rattle.meaning.specs.Text.{run, begins}
-use Rattle.theory.specs.Names.{run-more}
+use Rattle.theory.specs.Names.{run-more, run-halt}
+use Rattle.theory.specs.Told.{run-fits}
 use Rattle.text.specs.declared.Found.{Found}
 use Rattle.text.specs.declared.Found.the-variants as F
 use Rattle.text.specs.Answers.{foundIn, further}
 
--- the longest run
-module _ (p : ℕ → Bool) where
-  pub run-halt : (x : ℕ) (s : List ℕ) → p x ≡ false → run p (x ∷ s) ≡ 0
-  unfolding run
-  run-halt x s e = rw (e, run)
-
-  -- each byte of the run passes the test
-  pub run-passes : (s : List ℕ) (j : ℕ) → j < run p s → p (getD s j 0) ≡ true
-  unfolding run
-  run-passes [] j h = absurd (omega arith)
-  run-passes (x ∷ s) j h = go (p x) refl j h (run-passes s)
-    where
-      go : (b : Bool) → p x ≡ b → (j : ℕ) → j < run p (x ∷ s) → ((j : ℕ) → j < run p s → p (getD s j 0) ≡ true) → p (getD (x ∷ s) j 0) ≡ true
-      go true e zero h ih = e
-      go true e (suc j) h ih = ih j (omega (arith, run-more p x s e))
-      go false e j h ih = absurd (omega (arith, run-halt x s e))
-
--- a loop at the cursor i
+-- THE LONGEST RUN: a loop at the cursor i
 module _ (p : ℕ → Bool) (s : List ℕ) (i : ℕ) where
-  pub run-at-more : (b : Bool) → run p s ≡ i + run p (drop i s) → i < length s
-      → b ≡ p (getD s i 0) → not b ≡ false → run p s ≡ i + 1 + run p (drop (i + 1) s)
-  run-at-more b v h e t =
-      let m : run p (drop i s) ≡ suc (run p (drop (i + 1) s)) = rw (add-one, drop-cons s i 0) (run-more p _ _ (sym e ∙ not-false b t)) in
-      omega arith
+  module _ (b : Bool) (v : run p s ≡ i + run p (drop i s)) (h : i < length s) (e : b ≡ p (getD s i 0)) where
+    pub run-at-more : not b ≡ false → run p s ≡ i + 1 + run p (drop (i + 1) s)
+    run-at-more t = rw add-one (omega (arith, rw (← drop-cons s i 0 h) at (run-more p (getD s i 0) (drop (suc i) s) (sym e ∙ not-false b t))))
 
-  pub run-at-stop : (b : Bool) → run p s ≡ i + run p (drop i s) → i < length s
-      → b ≡ p (getD s i 0) → not b ≡ true → i ≡ run p s
-  run-at-stop b v h e t =
-      let m : run p (drop i s) ≡ 0 = rw (drop-cons s i 0) (run-halt p _ _ (sym e ∙ not-true b t)) in
-      omega arith
+    pub run-at-stop : not b ≡ true → i ≡ run p s
+    run-at-stop t = omega (arith, rw (← drop-cons s i 0 h) at (run-halt p (getD s i 0) (drop (suc i) s) (sym e ∙ not-true b t)))
 
   pub run-at-end : run p s ≡ i + run p (drop i s) → length s ≤ i → i ≡ run p s
-  unfolding run
-  run-at-end v h =
-      let m : run p (drop i s) ≡ 0 = rw drop-of-length-le in
-      omega arith
+  run-at-end v h = omega (arith, run-fits p (drop i s), length-drop i s)
 
 pub ruleset running = (run-at-more, run-at-stop, run-at-end)
 
 -- a list that begins with another
-begins-same : (x y : ℕ) (k s : List ℕ) → x ≡ y → begins (y ∷ k) (x ∷ s) ≡ begins k s
-unfolding begins
-begins-same x y k s e = rw (eq-eqb x y e, begins)
-
-begins-other : (x y : ℕ) (k s : List ℕ) → (x ≡ y → ⊥) → begins (y ∷ k) (x ∷ s) ≡ false
-unfolding begins
-begins-other x y k s e = rw (ne-eqb x y e, begins)
-
 module _ (k s : List ℕ) (i : ℕ) (v : begins k s ≡ begins (drop i k) (drop i s)) where
   pub begins-at-more : i < length k → i < length s → getD s i 0 ≡ getD k i 0 → begins k s ≡ begins (drop (i + 1) k) (drop (i + 1) s)
-  begins-at-more hk hs e = v ∙ rw (add-one, drop-cons k i 0, drop-cons s i 0) (begins-same _ _ _ _ e)
+  unfolding begins
+  begins-at-more hk hs e = v ∙ rw (add-one, drop-cons k i 0, drop-cons s i 0, eq-eqb (getD s i 0) (getD k i 0) e, begins)
 
   pub begins-at-stop : i < length k → i < length s → (getD s i 0 ≡ getD k i 0 → ⊥) → false ≡ begins k s
-  begins-at-stop hk hs e = sym (v ∙ rw (drop-cons k i 0, drop-cons s i 0) (begins-other _ _ _ _ e))
+  unfolding begins
+  begins-at-stop hk hs e = sym (v ∙ rw (drop-cons k i 0, drop-cons s i 0, ne-eqb (getD s i 0) (getD k i 0) e, begins))
 
   pub begins-at-short : i < length k → length s ≤ i → false ≡ begins k s
   unfolding begins
@@ -86,9 +57,7 @@ pub rest-some : (s : List ℕ) (a : ℕ) → take (length s - a) (drop a s) ≡ 
 rest-some s a = take-all (length s - a) (drop a s) (simp length-drop (omega arith))
 
 pub rest-none : (s : List ℕ) (a : ℕ) → length s < a → [] ≡ drop a s
-rest-none s a h =
-    let l : length s ≤ a = omega arith in
-    sym (drop-of-length-le s l)
+rest-none s a h = sym (drop-of-length-le s {i = a} (omega arith))
 
 pub ruleset resting = (rest-some, rest-none)
 
@@ -96,11 +65,6 @@ pub ruleset resting = (rest-some, rest-none)
 unfoldable pub shifted : ℕ → Found → Found
 shifted k (F.At i) = F.At (k + i)
 shifted k F.Nothing = F.Nothing
-
-shifted-zero : (f : Found) → f ≡ shifted 0 f
-unfolding shifted
-shifted-zero (F.At i) = ap (λ n. F.At n) (omega arith)
-shifted-zero F.Nothing = refl
 
 pub shifted-suc : (k : ℕ) (f : Found) → shifted k (further f) ≡ shifted (suc k) f
 unfolding shifted
@@ -117,17 +81,15 @@ found-later w v vs e = rw (ne-eqb v w e, foundIn)
 
 -- the search of a table at the cursor i
 pub find-start : (from : ℕ) (f : Found) → f ≡ shifted (from - from) f
-find-start from f =
-    let z : from - from ≡ 0 = omega arith in
-    rw z (shifted-zero f)
+unfolding shifted
+find-start from (F.At i) = ap (λ n. F.At n) (omega arith)
+find-start from F.Nothing = refl
 
 module _ (w : ℕ) (l : List ℕ) (from to i : ℕ)
     (v : foundIn w (take (to - from) (drop from l)) ≡ shifted (i - from) (foundIn w (take (to - i) (drop i l)))) where
   pub find-over : to ≤ i → F.Nothing ≡ foundIn w (take (to - from) (drop from l))
   unfolding foundIn shifted
-  find-over h =
-      let z : to - i ≡ 0 = omega arith in
-      sym (v ∙ rw z)
+  find-over h = sym (v ∙ rw (sub-eq-zero-of-le h))
 
   pub find-none : length l ≤ i → F.Nothing ≡ foundIn w (take (to - from) (drop from l))
   unfolding foundIn shifted
@@ -145,9 +107,7 @@ module _ (w : ℕ) (l : List ℕ) (from to i : ℕ)
 
     pub find-more : from ≤ i → (getD l i 0 ≡ w → ⊥)
         → foundIn w (take (to - from) (drop from l)) ≡ shifted (i + 1 - from) (foundIn w (take (to - (i + 1)) (drop (i + 1) l)))
-    find-more h e =
-        let m : i + 1 - from ≡ suc (i - from) = omega arith in
-        v ∙ rw (left-is, found-later w _ _ e, m) (shifted-suc (i - from) _)
+    find-more h e = v ∙ rw (left-is, found-later w _ _ e) (shifted-suc (i - from) _ ∙ ap (λ k. shifted k (foundIn w (take (to - (i + 1)) (drop (i + 1) l)))) (omega arith))
 
 pub ruleset finding = (find-start, find-over, find-none, find-here, find-more)
 

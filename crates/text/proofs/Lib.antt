@@ -1,6 +1,5 @@
 pub mod Laws
 pub mod Packs
-pub mod Steps
 pub mod Callers
 pub mod Pieces
 pub mod Only

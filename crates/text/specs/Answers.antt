@@ -1,11 +1,11 @@
 -- What the code answers for what the meaning reads: one function for each type of answer.
-use Prim.Native.Nat.{ℕ, suc, _-_}
+use Prim.Native.Nat.{ℕ, suc}
 use mathlib.Core.Bool.{true, false}
 use mathlib.Core.List.{List, [], _∷_}
-use lib.ListN.{length}
 use lib.Dec.{eqb}
-use Rattle.meaning.specs.Reading.{Got, got, wrong}
+use Rattle.meaning.specs.Reading.{Got}
 use Rattle.meaning.specs.Name.{Name}
+use Rattle.theory.specs.Answer.{asRead, asShown}
 use Rattle.text.specs.Packed.{packed}
 use Rattle.text.specs.declared.Bytes.{Bytes}
 use Rattle.text.specs.declared.Bytes.the-variants as B
@@ -18,18 +18,15 @@ use Rattle.text.specs.declared.Found.the-variants as F
 
 -- a piece of known text, read at the start of s: the bytes that it took
 abbrev pub asBytes : List ℕ → Got (Unit {0}) → Bytes
-asBytes s (got u l t) = B.Read (length s - length t)
-asBytes s (wrong n l) = B.Refused n
+asBytes = asRead (λ u n. B.Read n) B.Refused
 
--- a name
+-- a name: its number, and its length
 abbrev pub asName : Got Name → NamePiece
-asName (got w l t) = N.Name (packed w) (length w)
-asName (wrong n l) = N.Refused n
+asName = asShown (λ w. w) (λ w n. N.Name (packed w) n) N.Refused
 
 -- a place in a table
 abbrev pub asKnown : List ℕ → Got ℕ → Known
-asKnown s (got i l t) = K.At i (length s - length t)
-asKnown s (wrong n l) = K.Refused n
+asKnown = asRead K.At K.Refused
 
 -- one place further on
 abbrev pub further : Found → Found

@@ -65,7 +65,7 @@ pub record HappeningIn (sh : Sheet) (h : Happening) : Type 0 where
   pub carried : map (λ p. p .field) (h .puts) ≡ carriedBy sh (h .event)
 
 -- what is put into the field f
-put-proper : (sh : Sheet) (f : ℕ) → Ensures (put sh f) (λ p. (p .field ≡ f) × Proper (p .entry))
+pub put-proper : (sh : Sheet) (f : ℕ) → Ensures (put sh f) (λ p. (p .field ≡ f) × Proper (p .entry))
 unfolding put
 put-proper sh f =
     any-ensures (due LINE (text " ")) λ _.

@@ -68,8 +68,8 @@ pub endLine-again : (n l : ℕ) → n < 100 → endLine n l (text "end=" ++ (dec
 unfolding endLine due notEnded stands begins run lineEnd paperEnd
 endLine-again n l h = rw (number-again false (decimal n) (middle + n) (10 ∷ []) l (count-means n h) refl, eq-eqb (middle + n) (middle + n) refl)
 
--- whatever digits mean this count are its digits
-amount-grows : (ds : List ℕ) (v : ℕ) → v ≤ amount v ds
+-- digits behind others make no value smaller
+pub amount-grows : (ds : List ℕ) (v : ℕ) → v ≤ amount v ds
 unfolding amount
 amount-grows [] v = omega arith
 amount-grows (d ∷ ds) v = omega (arith, amount-grows ds (v * 10 + (d - 48)))

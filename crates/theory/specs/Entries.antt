@@ -1,7 +1,7 @@
 -- Numbers and entries: whatever is read is read back from its own text, which is short, and counts are read back as they are written.
 use Prim.Native.Nat.{ℕ, suc, _+_, _-_, _*_, _^_, _≤_, _<_}
 use mathlib.Core.Path.{_≡_, refl, subst}
-use mathlib.Core.Bool.{Bool, true, false, _&&_, cond}
+use mathlib.Core.Bool.{Bool, true, false, _&&_, cond, false≢true}
 use mathlib.Core.List.{List, [], _∷_, _++_}
 use mathlib.Core.Option.{Option, none, some, Option·none-ne-some, Option·some-injective}
 use native.Mathlib.Omega.{arith}
@@ -15,7 +15,7 @@ use Rattle.meaning.specs.Reading.{got, notEnded, stands}
 use Rattle.meaning.specs.Name.{digit}
 use Rattle.meaning.specs.Number.{middle, limit, amount, inRange, digits, place, Written, judged, number, missing, number-at, Entry, entry}
 use Rattle.theory.specs.Readers.{Ensures, give-ensures, refuse-ensures, choose-ensures, bind-ensures, any-ensures, ensures-weaker, ensures-both}
-use Rattle.theory.specs.Names.{longest-full, longest-again}
+use Rattle.theory.specs.Names.{run-first, longest-full, longest-again}
 use Rattle.theory.specs.Spelling.{Spells, give-spells, refuse-spells, choose-spells, bind-spells, notEnded-spells, stands-spells, longest-spells}
 
 -- NUMBERS
@@ -45,15 +45,18 @@ number-wrote =
     go minus ds full none e = refuse-ensures
     go minus ds full (some v) e = give-ensures (record { minus = minus; ds = ds; means = record { full = full; place = e }; shown = refl })
 
--- the first of some digits is a digit
-pub digit-first : (d : ℕ) (ds : List ℕ) → run digit (d ∷ ds) ≡ suc (length ds) → (48 ≤ d) × (d ≤ 57)
-unfolding run
-digit-first d ds h = go (leb 48 d) refl (leb d 57) refl h
+-- a digit lies between two bytes
+pub digit-bounds : (d : ℕ) → digit d ≡ true → (48 ≤ d) × (d ≤ 57)
+digit-bounds d = go (leb 48 d) refl (leb d 57) refl
   where
-    go : (a : Bool) → leb 48 d ≡ a → (b : Bool) → leb d 57 ≡ b → _≡_ {A = ℕ} (elim (a && b) [ true ↦ suc (run digit ds) | false ↦ 0 ]) (suc (length ds)) → (48 ≤ d) × (d ≤ 57)
+    go : (a : Bool) → leb 48 d ≡ a → (b : Bool) → leb d 57 ≡ b → a && b ≡ true → (48 ≤ d) × (d ≤ 57)
     go true p true q h = (leb-true 48 d p, leb-true d 57 q)
-    go true p false q h = absurd (omega arith)
-    go false p b q h = absurd (omega arith)
+    go true p false q h = absurd (false≢true h)
+    go false p b q h = absurd (false≢true h)
+
+-- and so does the first of some digits
+pub digit-first : (d : ℕ) (ds : List ℕ) → run digit (d ∷ ds) ≡ suc (length ds) → (48 ≤ d) × (d ≤ 57)
+digit-first d ds h = digit-bounds d (run-first digit d ds h .0)
 
 -- where another byte stands
 begins-other : (c d : ℕ) (s : List ℕ) → (d ≡ c → ⊥) → begins (c ∷ []) (d ∷ s) ≡ false

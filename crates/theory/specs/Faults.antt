@@ -1,6 +1,6 @@
 -- Whatever a reader refuses with is one of the numbers of a fault in a line, 2 to 6.
 use Prim.Native.Nat.{ℕ, suc}
-use mathlib.Core.Path.{_≡_, refl, ap, subst}
+use mathlib.Core.Path.{_≡_, refl, sym, _∙_, ap, subst}
 use mathlib.Core.Bool.{Bool, true, false, cond, false≢true}
 use mathlib.Core.List.{List, [], _∷_}
 use native.Mathlib.Omega.{arith}
@@ -50,3 +50,20 @@ built-faulty (lineEnd-built {n = n} h) l s = line-faulty n h l s
 -- so no reader refuses with 0
 pub never-zero : {A : Type 0} {r : Reader A} → Built r → (l : ℕ) (s : List ℕ) (n k : ℕ) → r l s ≡ wrong n k → n ≡ 0 → ⊥
 never-zero h l s n k e z = omega (arith, subst Faulty e (built-faulty h l s) .0)
+
+-- code that answers for a reader with a number, 0 where it gives a value, and a line: what its answer v tells
+module _ {A R : Type 0} (form : Got A → R) (number line : R → ℕ) (zero : (a : A) (l : ℕ) (t : List ℕ) → number (form (got a l t)) ≡ 0)
+    (same : (n l : ℕ) → (number (form (wrong n l)) ≡ n) × (line (form (wrong n l)) ≡ l)) {r : Reader A} (built : Built r) (l : ℕ) (s : List ℕ) (v : R) (is : v ≡ form (r l s)) where
+  pub told-got : number v ≡ 0 → (a : A) × (k : ℕ) × (t : List ℕ) × (r l s ≡ got a k t) × (v ≡ form (got a k t))
+  told-got z = go (r l s) refl
+    where
+      go : (x : Got A) → r l s ≡ x → (a : A) × (k : ℕ) × (t : List ℕ) × (r l s ≡ got a k t) × (v ≡ form (got a k t))
+      go (got a k t) e = (a, k, t, e, is ∙ ap form e)
+      go (wrong n k) e = absurd (never-zero built l s n k e (sym (ap number (is ∙ ap form e) ∙ same n k .0) ∙ z))
+
+  pub told-wrong : (number v ≡ 0 → ⊥) → r l s ≡ wrong (number v) (line v)
+  told-wrong z = go (r l s) refl
+    where
+      go : (x : Got A) → r l s ≡ x → r l s ≡ wrong (number v) (line v)
+      go (got a k t) e = absurd (z (ap number (is ∙ ap form e) ∙ zero a k t))
+      go (wrong n k) e = e ∙ rw (is ∙ ap form e, same n k .0, same n k .1)

@@ -28,8 +28,15 @@ pub mod Shift
 pub mod Lines
 pub mod Told
 pub mod Suffix
+-- What code that reads answers, and what its answers tell:
+pub mod Answer
+pub mod Answered
+pub mod Shown
+pub mod Fixed
 -- One section of the sheet, row after row:
 pub mod Sections
+-- A reader for each member of a list, of whom some are read:
+pub mod Each
 -- What was read: a logic of readers and papers, and what holds of names, conditions and sheets, numbers, cards and event lines:
 pub mod Readers
 pub mod Names

@@ -1,16 +1,16 @@
 -- Members of lists: what appending, mapping, joining and keeping do to them, members by their places, and runs of members set.
 use Prim.Native.Nat.{ℕ, zero, suc, _+_, _≤_, _<_}
 use mathlib.Core.Path.{_≡_, refl, sym, _∙_, ap, ap₂, subst}
-use mathlib.Core.Bool.{Bool, true, false, not, _||_, true≢false, false≢true}
+use mathlib.Core.Bool.{Bool, true, false, not, _&&_, _||_, true≢false, false≢true}
 use mathlib.Core.List.{List, [], _∷_, _++_, map, map-append, append-assoc, append-nil}
 use mathlib.Core.Logic.{_⊎_, inl, inr, ⊎-elim}
 use native.Mathlib.Omega.{arith}
-use native.Mathlib.Nat.{add-zero, add-suc, suc-add}
+use native.Mathlib.Nat.{add-zero, zero-add, add-suc, suc-add}
 use native.Mathlib.Decide.{ℕ-discrete}
 use lib.Dec.{eqb}
 use lib.ListN.{length, take, getD, set}
 use lib.Seq.{sets, take-set-le}
-use borrow.Author.Tests.{eq-eqb, eqb-true, eqb-false}
+use borrow.Author.Tests.{eq-eqb, ne-eqb, eqb-true, eqb-false}
 use Rattle.meaning.specs.Text.{In, any, keep, joined, isIn, from}
 use Rattle.meaning.specs.Graph.{without}
 
@@ -274,6 +274,14 @@ in-from (suc n) i k h g = go (ℕ-discrete k i) (in-from n (suc i) k)
     go (yes e) ih = inl e
     go (no ne) ih = inr (ih (omega arith) (omega arith))
 
+-- a test that no number below n fails where p holds
+pub every : (n : ℕ) (p q : ℕ → Bool) → any (λ x. p x && not (q x)) (from 0 n) ≡ false → (x : ℕ) → x < n → p x ≡ true → q x ≡ true
+every n p q e x h t = go (q x) refl
+  where
+    go : (b : Bool) → q x ≡ b → q x ≡ true
+    go true z = z
+    go false z = absurd (true≢false (sym (in-any (λ x. p x && not (q x)) x (from 0 n) (in-from n 0 x (omega arith) (omega arith)) (rw (t, z))) ∙ e))
+
 pub from-once : (n i : ℕ) → Once (from i n)
 unfolding from
 from-once zero i = tt
@@ -283,6 +291,11 @@ pub from-length : (n i : ℕ) → length (from i n) ≡ n
 unfolding from
 from-length zero i = refl
 from-length (suc n) i = ap suc (from-length n (suc i))
+
+pub from-both : (i n m : ℕ) → from i (n + m) ≡ from i n ++ from (i + n) m
+unfolding from
+from-both i zero m = rw (zero-add, add-zero)
+from-both i (suc n) m = let z : suc i + n ≡ i + suc n = omega arith in rw suc-add (ap (λ l. i ∷ l) (rw z at (from-both (suc i) n m)))
 
 -- members by their places
 pub placed-at : (o : List ℕ) (k : ℕ) → In k o → (i : ℕ) × (i < length o) × (getD o i 0 ≡ k)
@@ -312,3 +325,13 @@ sets-append (x ∷ xs) ys l i = rw (add-suc i (length xs), ← suc-add i (length
 pub take-sets : (n : ℕ) (xs l : List ℕ) (i : ℕ) → n ≤ i → take n (sets l i xs) ≡ take n l
 take-sets n [] l i h = refl
 take-sets n (x ∷ xs) l i h = take-sets n xs (set l i x) (suc i) (omega arith) ∙ take-set-le n l i x h
+
+-- TESTS OF NUMBERS
+
+-- two that tell the same
+pub eqb-alike : (a b c d : ℕ) → (a ≡ b → c ≡ d) → (c ≡ d → a ≡ b) → eqb a b ≡ eqb c d
+eqb-alike a b c d h g = go (ℕ-discrete c d)
+  where
+    go : Dec (c ≡ d) → eqb a b ≡ eqb c d
+    go (yes e) = eq-eqb a b (g e) ∙ sym (eq-eqb c d e)
+    go (no e) = ne-eqb a b (λ q. e (h q)) ∙ sym (ne-eqb c d e)

@@ -20,10 +20,23 @@ use Rattle.theory.specs.Readers.{Ensures, got-yields, give-ensures, refu
 -- RUNS OF BYTES THAT PASS A TEST
 
 module _ (p : ℕ → Bool) where
-  -- a byte that passes makes the run longer by one
+  -- a byte that passes makes the run longer by one, another ends it
   pub run-more : (x : ℕ) (s : List ℕ) → p x ≡ true → run p (x ∷ s) ≡ suc (run p s)
   unfolding run
   run-more x s e = rw (e, run)
+
+  pub run-halt : (x : ℕ) (s : List ℕ) → p x ≡ false → run p (x ∷ s) ≡ 0
+  unfolding run
+  run-halt x s e = rw (e, run)
+
+  -- the first byte of a run that goes to the end, and the rest of it
+  pub run-first : (x : ℕ) (s : List ℕ) → run p (x ∷ s) ≡ suc (length s) → (p x ≡ true) × (run p s ≡ length s)
+  unfolding run
+  run-first x s = go (p x)
+    where
+      go : (b : Bool) → elim b [ true ↦ suc (run p s) | false ↦ 0 ] ≡ suc (length s) → (b ≡ true) × (run p s ≡ length s)
+      go true e = (refl, omega arith)
+      go false e = absurd (omega arith)
 
   -- the longest run passes throughout
   pub run-taken : (s : List ℕ) → run p (take (run p s) s) ≡ length (take (run p s) s)

@@ -1,6 +1,6 @@
 -- The numbers of refusals: each paper has its own, a step is refused with 1 to 9 and never with MANY, an outlook with 1 to 10.
 use Prim.Native.Nat.{ℕ, _+_, _≤_}
-use mathlib.Core.Path.{_≡_, refl, ap, subst₂}
+use mathlib.Core.Path.{_≡_, refl, _∙_, ap, subst₂}
 use mathlib.Core.Bool.{Bool, true, false, cond, false≢true}
 use mathlib.Core.List.{List}
 use mathlib.Core.Option.{Option, none, some}
@@ -59,17 +59,41 @@ on-tells (taken a) h g = g a
 on-tells (refused n p l) h g = refused-tells (h .told n p l refl)
 
 -- a paper names itself, with LONG or the number of a fault
-paper-tells : {A : Type 0} (p limit : ℕ) {r : Reader A} (s : List ℕ) → Built r → Tells (paper p limit r s) (λ n q. (1 ≤ n) × (n ≤ 6) × (q ≡ p))
+abbrev OfPaper : ℕ → ℕ → ℕ → ℕ → Type 0
+OfPaper top q n p = (1 ≤ n) × (n ≤ top) × (p ≡ q)
+
+pub answered-tells : {A : Type 0} (p : ℕ) {r : Reader A} → Built r → (l : ℕ) (s : List ℕ) → Tells (answered p (r l s)) (OfPaper 6 p)
+answered-tells {A} p {r} h l s = go (r l s) (built-faulty h l s)
+  where
+    go : (x : Got A) → Faulty x → Tells (answered p x) (OfPaper 6 p)
+    go (got a l t) f = taken-tells
+    go (wrong n l) f = refused-tells (omega (arith, f .0), f .1, refl)
+
+paper-tells : {A : Type 0} (p limit : ℕ) {r : Reader A} (s : List ℕ) → Built r → Tells (paper p limit r s) (OfPaper 6 p)
 unfolding paper
 paper-tells {A} p limit {r} s h = fits (leb (length s) limit)
   where
-    seen : (x : Got A) → Faulty x → Tells (answered p x) (λ n q. (1 ≤ n) × (n ≤ 6) × (q ≡ p))
-    seen (got a l t) f = taken-tells
-    seen (wrong n l) f = refused-tells (omega (arith, f .0), f .1, refl)
-
-    fits : (b : Bool) → Tells (answered p (choose b r (λ l t. wrong LONG 0) 1 s)) (λ n q. (1 ≤ n) × (n ≤ 6) × (q ≡ p))
-    fits true = seen (r 1 s) (built-faulty h 1 s)
+    fits : (b : Bool) → Tells (answered p (choose b r (λ l t. wrong LONG 0) 1 s)) (OfPaper 6 p)
+    fits true = answered-tells p h 1 s
     fits false = refused-tells (omega arith, omega arith, refl)
+
+-- code that answers for such a paper with a number, 0 where it is taken, and a line: what its answer r tells
+module _ {A R : Type 0} (form : Answer A → R) (number line : R → ℕ) (zero : (a : A) → number (form (taken a)) ≡ 0)
+    (same : (n p l : ℕ) → (number (form (refused n p l)) ≡ n) × (line (form (refused n p l)) ≡ l))
+    {top q : ℕ} {x : Answer A} (tells : Tells x (OfPaper top q)) (r : R) (is : r ≡ form x) where
+  pub told-taken : number r ≡ 0 → (a : A) × (x ≡ taken a) × (r ≡ form (taken a))
+  told-taken z = go x refl
+    where
+      go : (y : Answer A) → x ≡ y → (a : A) × (x ≡ taken a) × (r ≡ form (taken a))
+      go (taken a) e = (a, e, is ∙ ap form e)
+      go (refused n p l) e = absurd (omega (arith, tells .told n p l e .0, ap number (is ∙ ap form e), same n p l .0))
+
+  pub told-refused : (number r ≡ 0 → ⊥) → x ≡ refused (number r) q (line r)
+  told-refused z = go x refl
+    where
+      go : (y : Answer A) → x ≡ y → x ≡ refused (number r) q (line r)
+      go (taken a) e = absurd (z (ap number (is ∙ ap form e) ∙ zero a))
+      go (refused n p l) e = e ∙ rw (is ∙ ap form e, same n p l .0, same n p l .1, tells .told n p l e .2)
 
 -- the sheet: LONG, a fault or CYCLE
 pub sheet-tells : (s : List ℕ) → Tells (readSheet s) (λ n p. (1 ≤ n) × (n ≤ 7) × (p ≡ 1))

@@ -6,7 +6,7 @@ use mathlib.Core.List.{List, [], _∷_, _++_}
 use native.Mathlib.Omega.{arith}
 use lib.ListN.{length, drop}
 use Rattle.meaning.specs.Text.{begins}
-use Rattle.meaning.specs.Reading.{got, wrong, Reader, stands}
+use Rattle.meaning.specs.Reading.{got, wrong, Reader, after, stands}
 use Rattle.meaning.specs.ReadSheet.{section}
 
 module _ {A : Type 0} (key : List ℕ) (row : List A → Reader A) (so : List A) (l : ℕ) (s : List ℕ) where
@@ -21,6 +21,14 @@ module _ {A : Type 0} (key : List ℕ) (row : List A → Reader A) (so : List A)
     pub section-full : section key row 0 so l s ≡ wrong 6 l
     unfolding section stands
     section-full = rw here
+
+    -- a further row, and what follows it
+    pub section-begun : (room : ℕ) → 1 ≤ room → section key row room so l s ≡ after (row so l (drop (length key) s)) (λ a. section key row (room - 1) (so ++ (a ∷ [])))
+    unfolding section stands
+    section-begun zero h = absurd (omega arith)
+    section-begun (suc room) h =
+        let z : suc room - 1 ≡ room = omega arith in
+        rw (z, here)
 
     -- a wrong row
     pub section-wrong : (room : ℕ) → 1 ≤ room → (n m : ℕ) → row so l (drop (length key) s) ≡ wrong n m → section key row room so l s ≡ wrong n m

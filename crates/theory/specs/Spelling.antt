@@ -1,15 +1,15 @@
 -- Which text was read: a small logic that gathers, piece by piece, the text that a reader has passed.
 use Prim.Native.Nat.{ℕ}
 use mathlib.Core.Path.{_≡_, refl, sym, _∙_, ap, ap₂}
-use mathlib.Core.Bool.{Bool, true, false, cond, false≢true}
+use mathlib.Core.Bool.{Bool, true, false, not, cond, false≢true}
 use mathlib.Core.List.{List, [], _∷_, _++_, append-nil, append-assoc}
 use lib.ListN.{length, drop, take-append-drop}
 use lib.Dec.{eqb}
 use borrow.Author.Tests.{eqb-true}
-use Rattle.meaning.specs.Text.{text, same, begins, run}
+use Rattle.meaning.specs.Text.{text, same, begins, run, among}
 use Rattle.meaning.specs.Refusal.{NAME}
 use Rattle.meaning.specs.Reading.{Got, got, wrong, Reader, after, give, refuse, choose, demand, notEnded, stands, due, longest, lineEnd}
-use Rattle.meaning.specs.Name.{Name, nameByte, goodName, name, dueName}
+use Rattle.meaning.specs.Name.{Name, nameByte, goodName, name, newName, dueName}
 use Rattle.theory.specs.Readers.{Yields, got-yields, wrong-yields, Ensures}
 use Rattle.theory.specs.Names.{same-equal}
 
@@ -112,6 +112,14 @@ name-spells =
     bind-spells notEnded-spells λ x.
     bind-spells (longest-spells nameByte) λ w.
     bind-spells (demand-spells NAME (goodName w)) λ y.
+    give-spells (append-nil w)
+
+-- a new name
+pub newName-spells : (used : List Name) → Spells [] (newName used) (λ w. w)
+unfolding newName
+newName-spells used =
+    bind-spells name-spells λ w.
+    bind-spells (demand-spells NAME (not (among w used))) λ y.
     give-spells (append-nil w)
 
 -- the name due

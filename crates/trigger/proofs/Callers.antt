@@ -1,30 +1,22 @@
 -- For callers: what the answer of `read_start` tells of the line, whatever its number.
-use Prim.Native.Nat.{ℕ}
-use mathlib.Core.Path.{_≡_}
 use mathlib.Core.List.{List, []}
 use Rattle.meaning.specs.Text.{text}
-use Rattle.meaning.specs.Reading.{wrong, give, choose, stands}
 use Rattle.meaning.specs.Name.{Name}
-use Rattle.meaning.specs.Sheet as M
-use Rattle.meaning.specs.ReadSheet.{trigger}
-use Rattle.theory.specs.Told.{Told, Any, told-give, told-choose, told-bind, told-stands}
-use Rattle.trigger.specs.declared.Start.{Start}
+use Rattle.theory.specs.Built.{Inline, bind-built, choose-built, stands-built, give-built}
+use Rattle.theory.specs.BuiltPapers.{trigger-built}
+use Rattle.theory.specs.Answered.{Kind}
 use Rattle.trigger.specs.declared.StartRead.{StartRead}
-use Rattle.trigger.specs.declared.StartRead.the-variants as S
-use Rattle.trigger.specs.Answers.{change, begun, asStart}
-use Rattle.trigger.proofs.Answered.{told-ends, answered-wrong}
-use Rattle.trigger.proofs.Pieces.{Bare, told-change, told-trigger, startKind, Starts, starts}
+use Rattle.trigger.specs.Answers.{Begun, begun}
+use Rattle.trigger.proofs.Pieces as Pieces
 
-pub told-begun : (es ss : List Name) (s : List ℕ) → Told Any (begun es ss) s
+-- its kind of answers, and that the reader is built of pieces and ends no line
+abbrev pub startKind : Kind Begun StartRead
+startKind = Pieces.startKind
+
+pub begun-built : (es ss : List Name) → Inline (begun es ss)
 unfolding begun
-told-begun es ss s =
-    told-bind Bare Any (change ss) _ s (told-change ss s) (λ b u h. told-bind Any Any (stands (text " on ")) _ u (told-stands (text " on ") u)
-    (λ on v k. told-bind Any Any (choose on (trigger [] es ss) (give M.Trigger.always)) _ v (told-choose Any on _ _ v (λ e. told-trigger [] es ss v) (λ e. told-give Any M.Trigger.always v tt))
-    (λ t w j. told-give Any _ w tt)))
-
-module _ (es ss : List Name) (s : List ℕ) (b : StartRead) (is : b ≡ asStart s (begun es ss 0 s)) where
-  pub start-wrong : (k : ℕ) → b ≡ S.Refused k → (l : ℕ) → begun es ss l s ≡ wrong k l
-  start-wrong = answered-wrong startKind b is (told-ends (told-begun es ss s))
-
-  pub start-got : (a : Start) → b ≡ S.At a → Starts Any (begun es ss) s a
-  start-got = starts s (told-begun es ss s) b is
+begun-built es ss =
+    bind-built (Pieces.change-built ss) λ b.
+    bind-built (stands-built (text " on ")) λ on.
+    bind-built (choose-built on (trigger-built [] es ss) give-built) λ t.
+    give-built

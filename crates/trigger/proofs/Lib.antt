@@ -1,5 +1,4 @@
--- What an answer tells of the reader that it stands for; the pieces of a rule's line up to ` if `:
-pub mod Answered
+-- The pieces of a rule's line up to ` if `, and what callers use:
 pub mod Pieces
 pub mod Callers
 -- No second answer fits:

@@ -1,9 +1,8 @@
 -- Laws of the pieces of a rule's line: its sign, a trigger, and all before ` if `.
 use Prim.Native.Nat.{ℕ, _+_, _-_, _^_, _≤_, _<_}
-use mathlib.Core.Path.{_≡_, refl, sym, _∙_, ap, subst}
-use mathlib.Core.Bool.{Bool, true, false, not}
+use mathlib.Core.Path.{_≡_, refl, sym, _∙_, ap}
+use mathlib.Core.Bool.{Bool, true, false, not, cond, _||_, false≢true}
 use mathlib.Core.List.{List, [], map}
-use mathlib.Core.Option.{Option, none, some}
 use native.Mathlib.Omega.{arith}
 use borrow.Author.Tests.{not-true, not-false}
 use lib.ListN.{length, take, drop, length-map}
@@ -11,140 +10,117 @@ use lib.Seq.{drop-drop, take-length}
 use mir.Val.{Fits}
 use mir.Syntax.{w8, w64}
 use Rattle.meaning.specs.Text.{text, begins}
-use Rattle.meaning.specs.Reading.{Got, got, wrong, Reader, after, give, stands, oneOf}
+use Rattle.meaning.specs.Refusal.{LINE}
+use Rattle.meaning.specs.Reading.{Got, got, wrong, Reader, after, give, choose, stands, oneOf}
 use Rattle.meaning.specs.Name.{Name, known}
 use Rattle.meaning.specs.Sheet as M
 use Rattle.meaning.specs.Sheet.{Sign, plus, minus}
 use Rattle.meaning.specs.ReadSheet.{signs, trigger}
+use Rattle.theory.specs.Answer.{asRead}
+use Rattle.theory.specs.Built.{Inline, bind-built, give-built, oneOf-built, known-built, line-fault}
+use Rattle.theory.specs.BuiltPapers.{trigger-built}
+use Rattle.theory.specs.Readers.{Yields, Ensures, any-ensures, give-ensures}
+use Rattle.theory.specs.Names.{known-below}
+use Rattle.theory.specs.Told.{Any, took}
+use Rattle.theory.specs.Answered.{here, behind, Ends, inline-ends, ensured-ends, bytes, fault, Kind, Left, left-start, left-at, left-answer, left-got, Next, left-on, left-off}
 use Rattle.text.specs.Packed.{named}
 use Rattle.text.specs.Answers.{asKnown}
 use Rattle.text.specs.declared.Known.{Known}
 use Rattle.text.specs.declared.Known.the-variants as K
 use Rattle.text.proofs.Callers.{begins-fits, stands-here, stands-not, known-got, known-wrong, known-place, known-fits, known-few}
-use Rattle.theory.specs.Told.{Told, Any, told-give, told-choose, told-bind, told-stands, told-oneOf}
 use Rattle.trigger.specs.declared.Trigger.{Trigger}
 use Rattle.trigger.specs.declared.Trigger.the-variants.{Always, Event, Rise, Fall}
-use Rattle.trigger.specs.declared.SignRead.{SignRead}
-use Rattle.trigger.specs.declared.SignRead.the-variants as G
 use Rattle.trigger.specs.declared.TriggerRead.{TriggerRead}
 use Rattle.trigger.specs.declared.TriggerRead.the-variants as T
 use Rattle.trigger.specs.declared.Start.{Start}
 use Rattle.trigger.specs.declared.StartRead.{StartRead}
 use Rattle.trigger.specs.declared.StartRead.the-variants as S
 use Rattle.trigger.specs.Answers.{Begun, change, begun, isPlus, asTrigger, startAt, asStart}
-use Rattle.trigger.specs.Parts.{eventTrigger, moved, asSign, triggerAt, asTriggerRead}
-use Rattle.trigger.proofs.Answered.{behind, told-ends, Kind, Found, answered-found, answered-wrong, answers-found}
+use Rattle.trigger.specs.Parts.{eventTrigger, moved, triggerAt, asTriggerRead}
 
 -- NAMES OF A TABLE: all of it
-pub known-all : (t : List ℕ) (s : List ℕ) (p : Known) → p ≡ asKnown s (known (map named (take (length t - 0) (drop 0 t))) 0 s) → p ≡ asKnown s (known (map named t) 0 s)
+pub known-all : (t s : List ℕ) (p : Known) → p ≡ asKnown s (known (map named (take (length t - 0) (drop 0 t))) 0 s) → p ≡ asKnown s (known (map named t) 0 s)
 known-all t s p e =
     let z : length t - 0 ≡ length t = omega arith in
-    let w : take (length t - 0) (drop 0 t) ≡ t = rw z (take-length t) in
-    rw w at e
+    rw (z, take-length t) at e
 
-module _ (t u : List ℕ) (p : Known) (is : p ≡ asKnown u (known (map named t) 0 u)) (x n : ℕ) (told : p ≡ K.At x n) where
-  -- a place of so short a table fits a byte
-  pub place-fits : length t ≤ 32 → Fits w8 x
-  place-fits h =
-      let z : x < length (map named t) = known-place p (map named t) u is x n told in
-      omega (arith, length-map t named)
-
-  pub name-next : (k : ℕ) → k ≡ n + 1 → Fits w64 k
-  name-next k e =
-      let z : n ≤ 12 = known-few p (map named t) u is x n told in
-      omega arith
-
-told-known : (ns : List Name) (t : List ℕ) → Told Any (known ns) t
-told-known ns t = go (asKnown t (known ns 0 t)) refl
+-- a place of so short a table fits a byte
+pub place-fits : (t s u : List ℕ) (p : Known) → p ≡ asKnown s (known (map named t) 0 u) → (x n : ℕ) → p ≡ K.At x n → length t ≤ 32 → Fits w8 x
+place-fits t s u p is x n e h = go (known (map named t) 0 u) (known-below (map named t) .gives 0 u) is
   where
-    go : (p : Known) → asKnown t (known ns 0 t) ≡ p → Told Any (known ns) t
-    go (K.At i n) e = Told.found i n tt (known-fits (asKnown t (known ns 0 t)) ns t refl i n e) (known-got (asKnown t (known ns 0 t)) ns t refl i n e)
-    go (K.Refused k) e = Told.faulty k (known-wrong (asKnown t (known ns 0 t)) ns t refl k e)
+    go : (g : Got ℕ) → Yields g (λ i v. i < length (map named t)) → p ≡ asKnown s g → Fits w8 x
+    go (got i l v) y q = let z : x ≡ i = cc in omega (arith, y .of i l v refl, length-map t named)
+    go (wrong k l) y q = let z : _≡_ {A = ℕ} 0 1 = cc in absurd (omega arith)
+
+-- what stands behind the first byte of s, told from its start
+module _ (s t : List ℕ) (some : 1 ≤ length s) (u : List ℕ) (at : u ≡ drop 1 s) (p : Known) (is : p ≡ asKnown u (known (map named t) 0 u)) where
+  behind-is : p ≡ asKnown (drop 1 s) (known (map named t) 0 (drop 1 s))
+  behind-is = rw at at is
+
+  pub behind-refused : (k : ℕ) → p ≡ K.Refused k → p ≡ asKnown s (known (map named t) 0 (drop 1 s))
+  behind-refused k e = e ∙ rw (known-wrong p (map named t) (drop 1 s) behind-is k e 0)
+
+  module _ (x n : ℕ) (e : p ≡ K.At x n) where
+    pub behind-fits : (m : ℕ) → m ≡ n + 1 → Fits w64 m
+    behind-fits m z = omega (arith, known-few p (map named t) (drop 1 s) behind-is x n e)
+
+    pub behind-read : (m : ℕ) → m ≡ n + 1 → K.At x m ≡ asKnown s (known (map named t) 0 (drop 1 s))
+    behind-read m z =
+        let h = behind s n 1 some (known-fits p (map named t) (drop 1 s) behind-is x n e) in
+        rw (known-got p (map named t) (drop 1 s) behind-is x n e 0, drop-drop n 1 s, took s (1 + n) h) (ap (λ i. K.At x i) (omega arith))
+
+pub ruleset behinding = (behind-refused, behind-fits, behind-read)
+
+-- what the answer on a name becomes, where a value is made of its place
+module _ {A B : Type 0} (good : A → ℕ → B) (bad : ℕ → B) (g : ℕ → A) where
+  abbrev becomes : Known → B
+  becomes (K.At x n) = good (g x) n
+  becomes (K.Refused k) = bad k
+
+  made : (s : List ℕ) (p : Known) (z : Got ℕ) → p ≡ asKnown s z → becomes p ≡ asRead good bad s (after z (λ x. give (g x)))
+  made s p (got x l t) e = rw e
+  made s p (wrong n l) e = rw e
 
 -- SIGNS
-abbrev pub signOf : Bool → Sign
-signOf true = plus
-signOf false = minus
+pub signed-plus : (a b c : Bool) → a ≡ b → a ≡ true → a ≡ (b || c)
+signed-plus a b c e t = t ∙ rw (← e, t)
 
-plus-signOf : (b : Bool) → isPlus (signOf b) ≡ b
-plus-signOf true = refl
-plus-signOf false = refl
+pub signed-minus : (a b c r : Bool) → a ≡ b → a ≡ false → r ≡ c → r ≡ (b || c)
+signed-minus a b c r e f z = rw (← e, f) z
 
-module _ (s : List ℕ) (b : Bool) (is : b ≡ begins (text "+") s) where
-  pub sign-plus : b ≡ true → G.Sign true ≡ asSign (oneOf 2 signs 0 s)
-  unfolding oneOf stands
-  sign-plus e = rw (← is, e)
+pub ruleset signing = (signed-plus, signed-minus)
 
-  module _ (e : b ≡ false) (c : Bool) (so : c ≡ begins (text "-") s) where
-    pub sign-minus : c ≡ true → G.Sign false ≡ asSign (oneOf 2 signs 0 s)
-    unfolding oneOf stands
-    sign-minus f = rw (← is, e, ← so, f)
+abbrev signOf : Bool → Sign
+signOf b = cond b plus minus
 
-    pub sign-none : c ≡ false → G.Refused 2 ≡ asSign (oneOf 2 signs 0 s)
-    unfolding oneOf stands
-    sign-none f = rw (← is, e, ← so, f)
+abbrev startOf : Bool → ℕ → Begun
+startOf b x = record { sign = signOf b; status = x; trigger = M.Trigger.always; on = false }
 
-pub ruleset signing = (sign-plus, sign-minus, sign-none)
+abbrev moveOf : Bool → ℕ → M.Trigger
+moveOf b x = cond b (M.Trigger.rise x) (M.Trigger.fall x)
 
--- where a sign stands: it is read, and a trigger is a status
-pub record Signed (s : List ℕ) (p : Bool) : Type 0 where
-  pub some : 1 ≤ length s
-  pub reads : (l : ℕ) → oneOf 2 signs l s ≡ got (signOf p) l (drop 1 s)
-  pub moves : (fs es ss : List Name) (l : ℕ) → trigger fs es ss l s ≡ after (known ss l (drop 1 s)) (λ x. give (elim p [ true ↦ M.Trigger.rise x | false ↦ M.Trigger.fall x ]))
+-- where a sign stands, `+` or not, a status is due behind it; where none stands, an event
+record Signed (s : List ℕ) (b : Bool) : Type 0 where
+  some : 1 ≤ length s
+  change : (ss : List Name) → change ss 0 s ≡ after (known ss 0 (drop 1 s)) (λ x. give (startOf b x))
+  trigger : (es ss : List Name) → trigger [] es ss 0 s ≡ after (known ss 0 (drop 1 s)) (λ x. give (moveOf b x))
 
--- where none stands: an event is due
-pub record Unsigned (s : List ℕ) : Type 0 where
-  pub none : (l : ℕ) → oneOf 2 signs l s ≡ wrong 2 l
-  pub event : (fs es ss : List Name) (l : ℕ) → trigger fs es ss l s ≡ eventTrigger es l s
+record Unsigned (s : List ℕ) : Type 0 where
+  change : (ss : List Name) → change ss 0 s ≡ wrong 2 0
+  trigger : (es ss : List Name) → trigger [] es ss 0 s ≡ eventTrigger es 0 s
 
 module _ (s : List ℕ) where
-  signed-plus : begins (text "+") s ≡ true → Signed s true
-  unfolding oneOf stands trigger
-  signed-plus e = record { some = begins-fits (text "+") s e; reads = λ l. rw e; moves = λ fs es ss l. rw e }
+  signed : (b c : Bool) → b ≡ begins (text "+") s → c ≡ begins (text "-") s → (b || c) ≡ true → Signed s b
+  unfolding oneOf stands change trigger
+  signed true c e f h = record { some = begins-fits (text "+") s (sym e); change = λ ss. rw (← e); trigger = λ es ss. rw (← e) }
+  signed false true e f h = record { some = begins-fits (text "-") s (sym f); change = λ ss. rw (← e, ← f); trigger = λ es ss. rw (← e, ← f) }
+  signed false false e f h = absurd (false≢true h)
 
-  signed-minus : begins (text "+") s ≡ false → begins (text "-") s ≡ true → Signed s false
-  unfolding oneOf stands trigger
-  signed-minus e f = record { some = begins-fits (text "-") s f; reads = λ l. rw (e, f); moves = λ fs es ss l. rw (e, f) }
-
-  unsigned : begins (text "+") s ≡ false → begins (text "-") s ≡ false → Unsigned s
-  unfolding oneOf stands trigger eventTrigger
-  unsigned e f = record { none = λ l. rw (e, f); event = λ fs es ss l. rw (e, f) }
-
-  either : (Q : Type 0) → ((p : Bool) → Signed s p → Q) → (Unsigned s → Q) → Q
-  either Q h g = first (begins (text "+") s) refl
-    where
-      second : begins (text "+") s ≡ false → (b : Bool) → begins (text "-") s ≡ b → Q
-      second e true f = h false (signed-minus e f)
-      second e false f = g (unsigned e f)
-
-      first : (b : Bool) → begins (text "+") s ≡ b → Q
-      first true e = h true (signed-plus e)
-      first false e = second e (begins (text "-") s) refl
-
-  module _ (g : SignRead) (is : g ≡ asSign (oneOf 2 signs 0 s)) where
-    pub sign-told : (p : Bool) → g ≡ G.Sign p → Signed s p
-    sign-told p told = either (Signed s p) good bad
-      where
-        good : (b : Bool) → Signed s b → Signed s p
-        good b h =
-            let q : G.Sign p ≡ G.Sign b = sym told ∙ is ∙ rw (h .reads 0, plus-signOf b) in
-            let z : p ≡ b = cc in
-            rw z h
-
-        bad : Unsigned s → Signed s p
-        bad h =
-            let q : G.Sign p ≡ G.Refused 2 = sym told ∙ is ∙ rw (h .none 0) in
-            let z : _≡_ {A = ℕ} 0 1 = cc in
-            absurd (omega arith)
-
-    pub sign-refused : (k : ℕ) → g ≡ G.Refused k → Unsigned s
-    sign-refused k told = either (Unsigned s) signed (λ h. h)
-      where
-        signed : (b : Bool) → Signed s b → Unsigned s
-        signed b h =
-            let q : G.Refused k ≡ G.Sign b = sym told ∙ is ∙ rw (h .reads 0, plus-signOf b) in
-            let z : _≡_ {A = ℕ} 0 1 = cc in
-            absurd (omega arith)
+  unsigned : (b c : Bool) → b ≡ begins (text "+") s → c ≡ begins (text "-") s → (b || c) ≡ false → Unsigned s
+  unfolding oneOf stands change trigger eventTrigger
+  unsigned true c e f h = absurd (false≢true (sym h))
+  unsigned false true e f h = absurd (false≢true (sym h))
+  unsigned false false e f h = record { change = λ ss. rw (← e, ← f); trigger = λ es ss. rw (← e, ← f) }
 
 -- TRIGGERS
 pub moves-up : (b : Bool) (x : ℕ) → b ≡ true → Rise x ≡ moved b x
@@ -153,199 +129,168 @@ moves-up b x e = rw e
 pub moves-down : (b : Bool) (x : ℕ) → b ≡ false → Fall x ≡ moved b x
 moves-down b x e = rw e
 
+move-of : (b : Bool) (x : ℕ) → moved b x ≡ asTrigger (moveOf b x)
+move-of true x = refl
+move-of false x = refl
+
+plus-of : (b : Bool) → b ≡ isPlus (signOf b)
+plus-of true = refl
+plus-of false = refl
+
 -- an event
 module _ (s t : List ℕ) (p : Known) (is : p ≡ asKnown s (known (map named t) 0 s)) where
-  pub event-refused : (k : ℕ) → p ≡ K.Refused k → T.Refused k ≡ asTriggerRead s (eventTrigger (map named t) 0 s)
+  event-made : becomes triggerAt T.Refused M.Trigger.event p ≡ asTriggerRead s (eventTrigger (map named t) 0 s)
   unfolding eventTrigger
-  event-refused k e = rw (known-wrong p (map named t) s is k e 0)
+  event-made = made triggerAt T.Refused M.Trigger.event s p (known (map named t) 0 s) is
+
+  pub event-refused : (k : ℕ) → p ≡ K.Refused k → T.Refused k ≡ asTriggerRead s (eventTrigger (map named t) 0 s)
+  event-refused k e = rw e at event-made
 
   pub event-read : (x n : ℕ) → p ≡ K.At x n → T.At (Event x) n ≡ asTriggerRead s (eventTrigger (map named t) 0 s)
-  unfolding eventTrigger
-  event-read x n e =
-      answers-found triggerAt T.Refused (eventTrigger (map named t)) s (M.Trigger.event x) 0 n n (known-fits p (map named t) s is x n e)
-      (rw (known-got p (map named t) s is x n e 0)) refl
+  event-read x n e = rw e at event-made
 
 pub ruleset eventing = (event-refused, event-read, place-fits)
 
-module _ (s es ss : List ℕ) (g : SignRead) (is : g ≡ asSign (oneOf 2 signs 0 s)) where
-  pub trigger-event : (k : ℕ) → g ≡ G.Refused k → (r : TriggerRead) → r ≡ asTriggerRead s (eventTrigger (map named es) 0 s)
-      → r ≡ asTriggerRead s (trigger [] (map named es) (map named ss) 0 s)
-  trigger-event k e r q = q ∙ rw (sign-refused s g is k e .event [] (map named es) (map named ss) 0)
+-- a trigger, and the sign and status that a line begins with, by whether a sign stands
+module _ (s es ss : List ℕ) (a : Bool) (is : a ≡ (begins (text "+") s || begins (text "-") s)) where
+  module _ (none : not a ≡ true) where
+    bare : Unsigned s
+    bare = unsigned s (begins (text "+") s) (begins (text "-") s) refl refl (sym is ∙ not-true a none)
 
-  module _ (b : Bool) (told : g ≡ G.Sign b) (u : List ℕ) (at : u ≡ drop 1 s) (p : Known) (so : p ≡ asKnown u (known (map named ss) 0 u)) where
-    pub trigger-refused : (k : ℕ) → p ≡ K.Refused k → T.Refused k ≡ asTriggerRead s (trigger [] (map named es) (map named ss) 0 s)
-    trigger-refused k e =
-        let q : known (map named ss) 0 (drop 1 s) ≡ wrong k 0 = rw at at (known-wrong p (map named ss) u so k e 0) in
-        rw (sign-told s g is b told .moves [] (map named es) (map named ss) 0, q)
+    pub trigger-event : (r : TriggerRead) → r ≡ asTriggerRead s (eventTrigger (map named es) 0 s) → r ≡ asTriggerRead s (trigger [] (map named es) (map named ss) 0 s)
+    trigger-event r q = q ∙ rw (bare .trigger (map named es) (map named ss))
 
-    pub trigger-read : (x n : ℕ) → p ≡ K.At x n → (v : Trigger) → v ≡ moved b x → (m : ℕ) → m ≡ n + 1
-        → T.At v m ≡ asTriggerRead s (trigger [] (map named es) (map named ss) 0 s)
-    trigger-read x n e v f m z = go b told f
-      where
-        q : known (map named ss) 0 (drop 1 s) ≡ got x 0 (drop (1 + n) s)
-        q = rw (at, drop-drop n 1 s) at (known-got p (map named ss) u so x n e 0)
+    pub change-unsigned : S.Refused 2 ≡ asStart s (change (map named ss) 0 s)
+    change-unsigned = rw (bare .change (map named ss))
 
-        h : 1 + n ≤ length s
-        h = behind s n 1 (sign-told s g is b told .some) (rw at at (known-fits p (map named ss) u so x n e))
+  module _ (one : not a ≡ false) where
+    sign : Signed s (begins (text "+") s)
+    sign = signed s (begins (text "+") s) (begins (text "-") s) refl refl (sym is ∙ not-false a one)
 
-        go : (b : Bool) → g ≡ G.Sign b → v ≡ moved b x → T.At v m ≡ asTriggerRead s (trigger [] (map named es) (map named ss) 0 s)
-        go true told f = rw f (answers-found triggerAt T.Refused (trigger [] (map named es) (map named ss)) s (M.Trigger.rise x) 0 (1 + n) m h
-            (sign-told s g is true told .moves [] (map named es) (map named ss) 0 ∙ rw q) (omega arith))
-        go false told f = rw f (answers-found triggerAt T.Refused (trigger [] (map named es) (map named ss)) s (M.Trigger.fall x) 0 (1 + n) m h
-            (sign-told s g is false told .moves [] (map named es) (map named ss) 0 ∙ rw q) (omega arith))
+    pub signed-some : 1 ≤ length s
+    signed-some = sign .some
 
-pub ruleset triggering = (trigger-event, trigger-refused, trigger-read, place-fits, name-next)
+    module _ (b : Bool) (up : b ≡ begins (text "+") s) (p : Known) (so : p ≡ asKnown s (known (map named ss) 0 (drop 1 s))) where
+      trigger-made : becomes triggerAt T.Refused (moveOf b) p ≡ asTriggerRead s (trigger [] (map named es) (map named ss) 0 s)
+      trigger-made = rw (sign .trigger (map named es) (map named ss), ← up) (made triggerAt T.Refused (moveOf b) s p (known (map named ss) 0 (drop 1 s)) so)
 
-pub told-trigger : (fs es ss : List Name) (s : List ℕ) → Told Any (trigger fs es ss) s
-unfolding trigger
-told-trigger fs es ss s =
-    told-bind Any Any (stands (text "+")) _ s (told-stands (text "+") s) (λ b u h. told-choose Any b _ _ u (λ e. status M.Trigger.rise u)
-    (λ e. told-bind Any Any (stands (text "-")) _ u (told-stands (text "-") u) (λ c t k. told-choose Any c _ _ t (λ f. status M.Trigger.fall t)
-    (λ f. told-bind Any Any (known es) _ t (told-known es t) (λ x v j. told-give Any (M.Trigger.event x) v tt)))))
-  where
-    status : (f : ℕ → M.Trigger) (t : List ℕ) → Told Any (λ l s. after (known ss l s) (λ x. give (f x))) t
-    status f t = told-bind Any Any (known ss) _ t (told-known ss t) (λ x v j. told-give Any (f x) v tt)
+      change-made : becomes startAt S.Refused (startOf b) p ≡ asStart s (change (map named ss) 0 s)
+      change-made = rw (sign .change (map named ss), ← up) (made startAt S.Refused (startOf b) s p (known (map named ss) 0 (drop 1 s)) so)
 
--- THE START OF A LINE: sign and status
-module _ (s ss : List ℕ) (g : SignRead) (is : g ≡ asSign (oneOf 2 signs 0 s)) where
-  pub change-unsigned : (k : ℕ) → g ≡ G.Refused k → S.Refused 2 ≡ asStart s (change (map named ss) 0 s)
-  unfolding change
-  change-unsigned k e = rw (sign-refused s g is k e .none 0)
+      pub trigger-refused : (k : ℕ) → p ≡ K.Refused k → T.Refused k ≡ asTriggerRead s (trigger [] (map named es) (map named ss) 0 s)
+      trigger-refused k e = rw e at trigger-made
 
-  module _ (b : Bool) (told : g ≡ G.Sign b) (u : List ℕ) (at : u ≡ drop 1 s) (p : Known) (so : p ≡ asKnown u (known (map named ss) 0 u)) where
-    pub change-refused : (k : ℕ) → p ≡ K.Refused k → S.Refused k ≡ asStart s (change (map named ss) 0 s)
-    unfolding change
-    change-refused k e =
-        let q : known (map named ss) 0 (drop 1 s) ≡ wrong k 0 = rw at at (known-wrong p (map named ss) u so k e 0) in
-        rw (sign-told s g is b told .reads 0, q)
+      pub trigger-read : (x n : ℕ) → p ≡ K.At x n → (v : Trigger) → v ≡ moved b x → T.At v n ≡ asTriggerRead s (trigger [] (map named es) (map named ss) 0 s)
+      trigger-read x n e v f = rw (f, move-of b x) (rw e at trigger-made)
 
-    pub change-read : (x n : ℕ) → p ≡ K.At x n → (m : ℕ) → m ≡ n + 1
-        → S.At (record { plus = b; status = x; trigger = Always; on = false; bytes = m }) ≡ asStart s (change (map named ss) 0 s)
-    unfolding change
-    change-read x n e m z =
-        let q : known (map named ss) 0 (drop 1 s) ≡ got x 0 (drop (1 + n) s) = rw (at, drop-drop n 1 s) at (known-got p (map named ss) u so x n e 0) in
-        let h : 1 + n ≤ length s = behind s n 1 (sign-told s g is b told .some) (rw at at (known-fits p (map named ss) u so x n e)) in
-        let y : m ≡ 1 + n = omega arith in
-        let w = answers-found startAt S.Refused (change (map named ss)) s (record { sign = signOf b; status = x; trigger = M.Trigger.always; on = false }) 0 (1 + n) m h
-        (rw (sign-told s g is b told .reads 0, q)) y in
-        rw (plus-signOf b) at w
+      pub change-refused : (k : ℕ) → p ≡ K.Refused k → S.Refused k ≡ asStart s (change (map named ss) 0 s)
+      change-refused k e = rw e at change-made
 
-pub ruleset changing = (change-unsigned, change-refused, change-read, place-fits, name-next)
+      pub change-read : (x n : ℕ) → p ≡ K.At x n
+          → S.At (record { plus = b; status = x; trigger = Always; on = false; bytes = n }) ≡ asStart s (change (map named ss) 0 s)
+      change-read x n e = ap (λ c. S.At (record { plus = c; status = x; trigger = Always; on = false; bytes = n })) (plus-of b) ∙ rw e at change-made
 
--- a line that has only begun
-pub record Bare (b : Begun) : Type 0 where
-  pub none : b .trigger ≡ M.Trigger.always
-  pub off : b .on ≡ false
+pub ruleset triggering = (trigger-event, signed-some, trigger-refused, trigger-read, place-fits)
 
-pub told-change : (ss : List Name) (s : List ℕ) → Told Bare (change ss) s
-unfolding change oneOf
-told-change ss s =
-    told-bind Any Bare (oneOf 2 signs) _ s (told-oneOf 2 signs s) (λ g u h. told-bind Any Bare (known ss) _ u (told-known ss u)
-    (λ x v k. told-give Bare (record { sign = g; status = x; trigger = M.Trigger.always; on = false }) v (record { none = refl; off = refl })))
+pub ruleset changing = (change-unsigned, signed-some, change-refused, change-read, place-fits)
 
 -- THE WHOLE START: then a trigger
-abbrev startFault : StartRead → Option ℕ
-startFault (S.At a) = none
-startFault (S.Refused k) = some k
-
-abbrev triggerFault : TriggerRead → Option ℕ
-triggerFault (T.At x n) = none
-triggerFault (T.Refused k) = some k
-
 abbrev pub startKind : Kind Begun StartRead
-startKind = record { good = startAt; bad = S.Refused; fault = startFault; of-good = λ b n. refl; of-bad = λ k. refl }
+startKind = record { good = startAt; bad = S.Refused; size = elim [ S.At a ↦ bytes (a .bytes) | S.Refused k ↦ fault k ]; of-good = λ b n. refl; of-bad = λ k. refl }
 
 abbrev triggerKind : Kind M.Trigger TriggerRead
-triggerKind = record { good = triggerAt; bad = T.Refused; fault = triggerFault; of-good = λ b n. refl; of-bad = λ k. refl }
+triggerKind = record { good = triggerAt; bad = T.Refused; size = elim [ T.At x n ↦ bytes n | T.Refused k ↦ fault k ]; of-good = λ b n. refl; of-bad = λ k. refl }
 
--- how a line began: what was read, and how far
-pub record Starts (P : Begun → Type 0) (r : Reader Begun) (s : List ℕ) (a : Start) : Type 0 where
-  pub value : Begun
-  pub holds : P value
-  pub within : a .bytes ≤ length s
-  pub reads : (l : ℕ) → r l s ≡ got value l (drop (a .bytes) s)
-  pub same : a ≡ record { plus = isPlus (value .sign); status = value .status; trigger = asTrigger (value .trigger); on = value .on; bytes = a .bytes }
+-- a line that has only begun
+record Bare (b : Begun) : Type 0 where
+  none : b .trigger ≡ M.Trigger.always
+  off : b .on ≡ false
 
-pub starts : {P : Begun → Type 0} {r : Reader Begun} (s : List ℕ) → Told P r s → (b : StartRead) → b ≡ asStart s (r 0 s) → (a : Start) → b ≡ S.At a → Starts P r s a
-starts {P} {r} s told b is a e = go (answered-found startKind b is (told-ends told) (rw e))
-  where
-    go : Found startKind P (λ l. l) r s b → Starts P r s a
-    go f =
-        let z : S.At a ≡ startAt (f .value) (f .bytes) = sym e ∙ f .same in
-        let y : a ≡ record { plus = isPlus (f .value .sign); status = f .value .status; trigger = asTrigger (f .value .trigger); on = f .value .on; bytes = f .bytes } = cc in
-        rw y (record { value = f .value; holds = f .holds; within = f .within; reads = f .reads; same = refl })
+module _ (ss : List Name) where
+  pub change-built : Inline (change ss)
+  unfolding change
+  change-built =
+      bind-built (oneOf-built signs line-fault) λ g.
+      bind-built (known-built ss) λ x.
+      give-built
+
+  change-bare : Ensures (change ss) Bare
+  unfolding change
+  change-bare =
+      any-ensures (oneOf LINE signs) λ g.
+      any-ensures (known ss) λ x.
+      give-ensures (record { none = refl; off = refl })
 
 module _ (s es ss : List ℕ) (r : StartRead) (is : r ≡ asStart s (change (map named ss) 0 s)) where
-  pub start-refused : (k : ℕ) → r ≡ S.Refused k → r ≡ asStart s (begun (map named es) (map named ss) 0 s)
+  abbrev whole : Reader Begun
+  whole = begun (map named es) (map named ss)
+
+  -- what is read behind sign and status, and behind ` on ` if it stands
+  abbrev fires : Begun → Bool → Reader Begun
+  fires b on = λ l s. after (choose on (trigger [] (map named es) (map named ss)) (give M.Trigger.always) l s) (λ t. give (record { sign = b .sign; status = b .status; trigger = t; on = on }))
+
+  abbrev goes : Begun → Reader Begun
+  goes b = λ l s. after (stands (text " on ") l s) (fires b)
+
+  pub start-refused : (k : ℕ) → r ≡ S.Refused k → r ≡ asStart s (whole 0 s)
   unfolding begun
-  start-refused k e = e ∙ rw (answered-wrong startKind r is (told-ends (told-change (map named ss) s)) k e 0)
+  start-refused k e = e ∙ rw (left-off startKind (inline-ends (change-built (map named ss))) goes (left-start whole 0 s) s refl r is k (ap (startKind .size) e))
 
   module _ (c : Start) (told : r ≡ S.At c) where
-    changed : Starts Bare (change (map named ss)) s c
-    changed = starts s (told-change (map named ss) s) r is c told
+    changed : Next startKind (λ b n. Bare b) (whole 0 s) goes 0 0 s r (c .bytes)
+    unfolding begun
+    changed = left-on startKind (ensured-ends (change-built (map named ss)) (change-bare (map named ss))) goes (left-start whole 0 s) s refl r is (c .bytes) (ap (startKind .size) told)
 
-    module _ (u : List ℕ) (at : u ≡ drop (c .bytes) s) (b : Bool) (here : b ≡ begins (text " on ") u) where
-      pub start-plain : not b ≡ true → S.At c ≡ asStart s (begun (map named es) (map named ss) 0 s)
-      unfolding begun
+    came : Left (whole 0 s) (goes (changed .value)) 0 (c .bytes) s
+    came = left-at (changed .left) (c .bytes) (omega arith)
+
+    start-is : (x : Trigger) (on : Bool) (m : ℕ) → S.At (record { plus = c .plus; status = c .status; trigger = x; on = on; bytes = m })
+        ≡ S.At (record { plus = isPlus (changed .value .sign); status = changed .value .status; trigger = x; on = on; bytes = m })
+    start-is x on m =
+        let z : S.At c ≡ startAt (changed .value) (c .bytes) = sym told ∙ changed .same in
+        let y : c .plus ≡ isPlus (changed .value .sign) = cc in
+        let w : c .status ≡ changed .value .status = cc in
+        cc
+
+    module _ (u : List ℕ) (at : u ≡ drop (c .bytes) s) (b : Bool) (key : b ≡ begins (text " on ") u) where
+      stood : b ≡ begins (text " on ") (drop (c .bytes) s)
+      stood = rw at at key
+
+      pub start-plain : not b ≡ true → S.At c ≡ asStart s (whole 0 s)
       start-plain f =
-          let h = changed in
-          let q : stands (text " on ") 0 (drop (c .bytes) s) ≡ got false 0 (drop (c .bytes) s) = rw at at (stands-not (text " on ") 0 u b here (not-true b f)) in
-          let w = answers-found startAt S.Refused (begun (map named es) (map named ss)) s (record { sign = h .value .sign; status = h .value .status; trigger = M.Trigger.always; on = false }) 0 (c .bytes) (c .bytes) (h .within)
-          (rw (h .reads 0, q)) refl in
-          let e : c ≡ record { plus = isPlus (h .value .sign); status = h .value .status; trigger = Always; on = false; bytes = c .bytes } = rw (h .holds .none, h .holds .off) at (h .same) in
-          ap S.At e ∙ w
+          let left = left-got (stands (text " on ")) (fires (changed .value)) came false 0 0 (omega arith) (stands-not (text " on ") 0 (drop (c .bytes) s) b stood (not-true b f)) in
+          let z : S.At c ≡ startAt (changed .value) (c .bytes) = sym told ∙ changed .same in
+          z ∙ rw (changed .holds .none, changed .holds .off) (left-answer startAt S.Refused left (c .bytes) (omega arith))
 
-      module _ (f : not b ≡ false) (v : List ℕ) (then : v ≡ drop 4 u) (t : TriggerRead) (so : t ≡ asTriggerRead v (trigger [] (map named es) (map named ss) 0 v)) where
-        key-fits : c .bytes + 4 ≤ length s
-        key-fits = behind s 4 (c .bytes) (changed .within) (rw at at (begins-fits (text " on ") u (sym here ∙ not-false b f)))
-
-        -- the line, by what its trigger gave
-        fired : (g : Got M.Trigger) → trigger [] (map named es) (map named ss) 0 v ≡ g
-            → begun (map named es) (map named ss) 0 s ≡ after g (λ t. give (record { sign = changed .value .sign; status = changed .value .status; trigger = t; on = true }))
-        unfolding begun
-        fired g e =
-            let q : stands (text " on ") 0 (drop (c .bytes) s) ≡ got true 0 v = rw (← at, then) (stands-here (text " on ") 0 u b here (not-false b f)) in
-            rw (changed .reads 0, q, e)
-
-        pub start-unfired : (k : ℕ) → t ≡ T.Refused k → S.Refused k ≡ asStart s (begun (map named es) (map named ss) 0 s)
-        start-unfired k e = rw (fired (wrong k 0) (answered-wrong triggerKind t so (told-ends (told-trigger [] (map named es) (map named ss) v)) k e 0))
+      module _ (f : not b ≡ false) where
+        asked : Left (whole 0 s) (fires (changed .value) true) 0 (c .bytes + 4) s
+        asked =
+            let e = sym stood ∙ not-false b f in
+            left-got (stands (text " on ")) (fires (changed .value)) came true 0 4 (begins-fits (text " on ") (drop (c .bytes) s) e) (stands-here (text " on ") 0 (drop (c .bytes) s) b stood (not-false b f))
 
         -- the bytes up to the trigger
         pub start-on : length s < 2 ^ 64 → (m : ℕ) → m ≡ c .bytes + 4 → Fits w64 m
-        start-on big m w = omega (arith, key-fits)
+        start-on big m w = omega (arith, asked .within)
 
-        module _ (x : Trigger) (n : ℕ) (e : t ≡ T.At x n) where
-          read : Found triggerKind Any (λ l. l) (trigger [] (map named es) (map named ss)) v t
-          read = answered-found triggerKind t so (told-ends (told-trigger [] (map named es) (map named ss) v)) (rw e)
+        module _ (v : List ℕ) (then : v ≡ drop 4 u) (t : TriggerRead) (so : t ≡ asTriggerRead v (trigger [] (map named es) (map named ss) 0 v)) where
+          rest : v ≡ drop (c .bytes + 4) s
+          rest = then ∙ rw (at, drop-drop 4 (c .bytes) s)
 
-          read-is : T.At x n ≡ triggerAt (read .value) (read .bytes)
-          read-is = sym e ∙ read .same
+          pub start-unfired : (k : ℕ) → t ≡ T.Refused k → S.Refused k ≡ asStart s (whole 0 s)
+          start-unfired k e = rw (left-off triggerKind (inline-ends (trigger-built [] (map named es) (map named ss))) _ asked v rest t so k (ap (triggerKind .size) e))
 
-          v-is : v ≡ drop (c .bytes + 4) s
-          v-is = rw (then, at, drop-drop 4 (c .bytes) s)
+          module _ (x : Trigger) (n : ℕ) (e : t ≡ T.At x n) where
+            fired : Next triggerKind (λ x n. Any x) (whole 0 s) (λ t. give (record { sign = changed .value .sign; status = changed .value .status; trigger = t; on = true })) 0 (c .bytes + 4) s t n
+            fired = left-on triggerKind (inline-ends (trigger-built [] (map named es) (map named ss))) _ asked v rest t so n (ap (triggerKind .size) e)
 
-          all-fits : c .bytes + 4 + read .bytes ≤ length s
-          all-fits = behind s (read .bytes) (c .bytes + 4) key-fits (subst (λ w. read .bytes ≤ length w) v-is (read .within))
+            pub start-whole : length s < 2 ^ 64 → (m : ℕ) → m ≡ c .bytes + 4 + n → Fits w64 m
+            start-whole big m w = omega (arith, fired .left .within)
 
-          -- and with it
-          pub start-whole : length s < 2 ^ 64 → (m : ℕ) → m ≡ c .bytes + 4 + n → Fits w64 m
-          start-whole big m w =
-              let z = read-is in
-              let i : n ≡ read .bytes = cc in
-              omega (arith, all-fits)
-
-          pub start-fired : (m : ℕ) → m ≡ c .bytes + 4 + n
-              → S.At (record { plus = c .plus; status = c .status; trigger = x; on = true; bytes = m }) ≡ asStart s (begun (map named es) (map named ss) 0 s)
-          start-fired m w =
-              let z = read-is in
-              let y : x ≡ asTrigger (read .value) = cc in
-              let i : n ≡ read .bytes = cc in
-              let q : begun (map named es) (map named ss) 0 s ≡ got (record { sign = changed .value .sign; status = changed .value .status; trigger = read .value; on = true }) 0 (drop (c .bytes + 4 + read .bytes) s)
-              = fired _ (read .reads 0 ∙ ap (λ w. got (read .value) 0 w) (ap (drop (read .bytes)) v-is ∙ drop-drop (read .bytes) (c .bytes + 4) s)) in
-              let g : c .plus ≡ isPlus (changed .value .sign) = ap (λ (c : Start). c .plus) (changed .same) in
-              let st : c .status ≡ changed .value .status = ap (λ (c : Start). c .status) (changed .same) in
-              let same : _≡_ {A = StartRead} (S.At (record { plus = c .plus; status = c .status; trigger = x; on = true; bytes = m }))
-              (startAt (record { sign = changed .value .sign; status = changed .value .status; trigger = read .value; on = true }) m) = cc in
-              same ∙ answers-found startAt S.Refused (begun (map named es) (map named ss)) s _ 0 (c .bytes + 4 + read .bytes) m all-fits q (omega arith)
+            pub start-fired : (m : ℕ) → m ≡ c .bytes + 4 + n
+                → S.At (record { plus = c .plus; status = c .status; trigger = x; on = true; bytes = m }) ≡ asStart s (whole 0 s)
+            start-fired m w =
+                let z : T.At x n ≡ triggerAt (fired .value) n = sym e ∙ fired .same in
+                let y : x ≡ asTrigger (fired .value) = cc in
+                start-is x true m ∙ rw y (left-answer startAt S.Refused (fired .left) m w)
 
 pub ruleset starting = (start-refused, start-plain, start-unfired, start-fired, start-on, start-whole)

@@ -1,15 +1,15 @@
 -- The start of a rule's line, up to ` if `, and what the code answers for it.
-use Prim.Native.Nat.{ℕ, _-_}
+use Prim.Native.Nat.{ℕ}
 use mathlib.Core.Bool.{Bool, true, false}
 use mathlib.Core.List.{List, []}
-use lib.ListN.{length}
 use Rattle.meaning.specs.Text.{text}
 use Rattle.meaning.specs.Refusal.{LINE}
-use Rattle.meaning.specs.Reading.{Got, got, wrong, Reader, _>>=_, _>>_, give, choose, stands, oneOf}
+use Rattle.meaning.specs.Reading.{Got, Reader, _>>=_, _>>_, give, choose, stands, oneOf}
 use Rattle.meaning.specs.Name.{Name, known}
 use Rattle.meaning.specs.Sheet as M
 use Rattle.meaning.specs.Sheet.{Sign, plus, minus}
 use Rattle.meaning.specs.ReadSheet.{signs, trigger}
+use Rattle.theory.specs.Answer.{asRead}
 use Rattle.trigger.specs.declared.Trigger.{Trigger}
 use Rattle.trigger.specs.declared.Trigger.the-variants.{Always, Event, Rise, Fall}
 use Rattle.trigger.specs.declared.Start.{Start}
@@ -37,11 +37,6 @@ begun events statuses = do
   on ← stands (text " on ")
   t ← choose on (trigger [] events statuses) (give M.Trigger.always)
   give (record { sign = b .sign; status = b .status; trigger = t; on = on })
-
--- What the code answers: for a value and the bytes that it took at the start of s, and for a refusal
-abbrev pub asRead : {A B : Type 0} → (A → ℕ → B) → (ℕ → B) → List ℕ → Got A → B
-asRead good bad s (got a l t) = good a (length s - length t)
-asRead good bad s (wrong n l) = bad n
 
 abbrev pub isPlus : Sign → Bool
 isPlus plus = true

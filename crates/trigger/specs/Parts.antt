@@ -2,25 +2,19 @@
 use Prim.Native.Nat.{ℕ}
 use mathlib.Core.Bool.{Bool, true, false}
 use mathlib.Core.List.{List}
-use Rattle.meaning.specs.Reading.{Got, got, wrong, Reader, _>>=_, give}
+use Rattle.meaning.specs.Reading.{Got, Reader, _>>=_, give}
 use Rattle.meaning.specs.Name.{Name, known}
 use Rattle.meaning.specs.Sheet as M
-use Rattle.meaning.specs.Sheet.{Sign}
 use Rattle.trigger.specs.declared.Trigger.{Trigger}
 use Rattle.trigger.specs.declared.Trigger.the-variants.{Rise, Fall}
-use Rattle.trigger.specs.declared.SignRead.{SignRead}
-use Rattle.trigger.specs.declared.SignRead.the-variants as G
 use Rattle.trigger.specs.declared.TriggerRead.{TriggerRead}
 use Rattle.trigger.specs.declared.TriggerRead.the-variants as T
-use Rattle.trigger.specs.Answers.{isPlus, asTrigger, asRead}
+use Rattle.theory.specs.Answer.{asRead}
+use Rattle.trigger.specs.Answers.{asTrigger}
 
 -- an event as a trigger
 unfoldable pub eventTrigger : List Name → Reader M.Trigger
 eventTrigger events = known events >>= λ e. give (M.Trigger.event e)
-
-abbrev pub asSign : Got Sign → SignRead
-asSign (got g l t) = G.Sign (isPlus g)
-asSign (wrong n l) = G.Refused n
 
 -- a status that rises, or one that falls
 abbrev pub moved : Bool → ℕ → Trigger

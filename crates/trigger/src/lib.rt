@@ -1,16 +1,17 @@
 // How a rule's line begins: its sign and status, and the trigger behind ` on `, if one stands there.
 use text::Known;
 ghost use mathlib.Core.Path.{_≡_};
+ghost use mathlib.Core.Bool.{_||_};
 ghost use mathlib.Core.List.{[], map};
 ghost use Prim.Native.Nat.{_≤_};
-ghost use lib.ListN.{length};
+ghost use lib.ListN.{length, drop};
+ghost use Rattle.meaning.specs.Text.{text, begins};
 ghost use Rattle.meaning.specs.Name.{known};
-ghost use Rattle.meaning.specs.Reading.{oneOf};
-ghost use Rattle.meaning.specs.ReadSheet.{signs, trigger};
+ghost use Rattle.meaning.specs.ReadSheet.{trigger};
 ghost use Rattle.text.specs.Packed.{named};
 ghost use Rattle.text.specs.Answers.{asKnown};
 ghost use Rattle.trigger.specs.Answers.{change, begun, asStart};
-ghost use Rattle.trigger.specs.Parts.{eventTrigger, moved, asSign, asTriggerRead};
+ghost use Rattle.trigger.specs.Parts.{eventTrigger, moved, asTriggerRead};
 
 // What sets a rule off: nothing, an event, or a status that rises or falls; each by its place.
 pub enum Trigger {
@@ -18,12 +19,6 @@ pub enum Trigger {
     Event(u8),
     Rise(u8),
     Fall(u8),
-}
-
-// A sign: whether it is `+`; or the refusal's number.
-enum SignRead {
-    Sign(bool),
-    Refused(u8),
 }
 
 // A trigger, and how many bytes it took; or the refusal's number.
@@ -53,17 +48,23 @@ fn known_in(s: &[u8], table: &[u64]) -> Known
     text::known_name(s, table, 0, table.len())
 }
 
-// The sign at the start of `s`.
-fn sign(s: &[u8]) -> SignRead
-    ensures { λ r. ⌜ r ≡ asSign (oneOf 2 signs 0 (now (s .entry))) ⌝ }
+// Whether a sign stands at the start of `s`.
+fn signed(s: &[u8]) -> bool
+    ensures { λ r. ⌜ r ≡ (begins (text "+") (now (s .entry)) || begins (text "-") (now (s .entry))) ⌝ }
 {
-    if text::starts(s, b"+") {
-        return SignRead::Sign(true);
-    }
-    if text::starts(s, b"-") {
-        return SignRead::Sign(false);
-    }
-    SignRead::Refused(2)
+    text::starts(s, b"+") || text::starts(s, b"-")
+}
+
+// The status behind the sign that `s` starts with, and how many bytes both took.
+fn behind_sign(s: &[u8], statuses: &[u64]) -> Known
+    requires { ⌜ 1 ≤ length (now s) ⌝ }
+    ensures { λ r. ⌜ r ≡ asKnown (now (s .entry)) (known (map named (now (statuses .entry))) 0 (drop 1 (now (s .entry)))) ⌝ }
+{
+    let p = known_in(text::rest(s, 1), statuses);
+    let Known::At(x, n) = p else {
+        return p;
+    };
+    Known::At(x, n + 1)
 }
 
 // A status that rises, or one that falls.
@@ -93,14 +94,14 @@ fn read_trigger(s: &[u8], events: &[u64], statuses: &[u64]) -> TriggerRead
     requires { ⌜ (length (now events) ≤ 32) × (length (now statuses) ≤ 32) ⌝ }
     ensures { λ r. ⌜ r ≡ asTriggerRead (now (s .entry)) (trigger [] (map named (now (events .entry))) (map named (now (statuses .entry))) 0 (now (s .entry))) ⌝ }
 {
-    let g = sign(s);
-    let SignRead::Sign(plus) = g else {
+    if !signed(s) {
         return event_trigger(s, events);
-    };
-    let p = known_in(text::rest(s, 1), statuses);
+    }
+    let plus = text::starts(s, b"+");
+    let p = behind_sign(s, statuses);
     match p {
         Known::Refused(k) => TriggerRead::Refused(k),
-        Known::At(x, n) => TriggerRead::At(moves(plus, x as u8), n + 1),
+        Known::At(x, n) => TriggerRead::At(moves(plus, x as u8), n),
     }
 }
 
@@ -109,11 +110,11 @@ fn read_change(s: &[u8], statuses: &[u64]) -> StartRead
     requires { ⌜ length (now statuses) ≤ 32 ⌝ }
     ensures { λ r. ⌜ r ≡ asStart (now (s .entry)) (change (map named (now (statuses .entry))) 0 (now (s .entry))) ⌝ }
 {
-    let g = sign(s);
-    let SignRead::Sign(plus) = g else {
+    if !signed(s) {
         return StartRead::Refused(2);
-    };
-    let p = known_in(text::rest(s, 1), statuses);
+    }
+    let plus = text::starts(s, b"+");
+    let p = behind_sign(s, statuses);
     match p {
         Known::Refused(k) => StartRead::Refused(k),
         Known::At(x, n) => StartRead::At(Start {
@@ -121,7 +122,7 @@ fn read_change(s: &[u8], statuses: &[u64]) -> StartRead
             status: x as u8,
             trigger: Trigger::Always,
             on: false,
-            bytes: n + 1,
+            bytes: n,
         }),
     }
 }

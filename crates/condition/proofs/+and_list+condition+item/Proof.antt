@@ -19,10 +19,10 @@ use Rattle.condition.proofs.item.Reads as item
 use Rattle.condition.proofs.item.Kinds as item-kinds
 use Rattle.condition.proofs.+and_list+condition+item.Lts-item as item-lts
 use Rattle.condition.proofs.and_stands.Reads as and-stands-reads
-use Rattle.condition.proofs.behind.Reads as behind-reads
-use Rattle.condition.proofs.closed.Reads as closed-reads
-use Rattle.condition.proofs.join_word.Reads as join-word-reads
-use Rattle.condition.proofs.leaf_item.Reads as leaf-item-reads
+use Rattle.item.proofs.behind.Reads as behind-reads
+use Rattle.item.proofs.closed.Reads as closed-reads
+use Rattle.item.proofs.join_word.Reads as join-word-reads
+use Rattle.item.proofs.leaf_item.Reads as leaf-item-reads
 use Rattle.condition.proofs.or_stands.Reads as or-stands-reads
 use Rattle.text.proofs.rest.Reads as rest-reads
 use Rattle.text.proofs.starts.Reads as starts-reads

@@ -1,7 +1,7 @@
 -- `condition::and_stands` meets its contract: what stands in the rest from `at` on stands at `at`.
 -- Assumes nothing.
 use borrow.Author.Needs.{needs}
-use Rattle.condition.proofs.Steps.{stands-at}
+use Rattle.condition.proofs.Listed.{stands-at}
 use Rattle.condition.proofs.and_stands.Statement.{statement}
 use Rattle.condition.proofs.and_stands.Tie as tie
 

@@ -1,7 +1,7 @@
--- A known field, room for it, and that it is new, one after the other.
+-- Each return is one case of the answer.
 -- Assumes nothing.
 use borrow.Author.Needs.{needs}
-use Rattle.events.proofs.EventPieces.{fielding}
+use Rattle.events.proofs.Carried.{fielding}
 use Rattle.events.proofs.next_field.Statement.{statement}
 use Rattle.events.proofs.next_field.Tie as tie
 

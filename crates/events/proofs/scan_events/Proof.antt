@@ -2,8 +2,10 @@
 -- Assumes nothing.
 use borrow.Author.Needs.{needs}
 use Prim.Native.Nat.{_-_}
+use mathlib.Core.Path.{refl}
+use native.Mathlib.Omega.{arith}
 use Rattle.events.proofs.Events.{Events}
-use Rattle.events.proofs.Scan.{Pieces, scanning, pieces-wrong, pieces-index}
+use Rattle.events.proofs.Scan.{Pieces, scanning, pieces-index, pieces-room, pieces-fewer, pieces-more, pieces-wrong}
 use Rattle.events.proofs.scan_events.Statement.{statement}
 use Rattle.events.proofs.scan_events.Tie as tie
 
@@ -83,19 +85,19 @@ add-h : tie.Need-add-h Inv-pieces μ-pieces Inv-scan μ-scan
 add-h c = search (needs, scanning)
 
 element-write-h : tie.Need-element-write-h Inv-pieces μ-pieces Inv-scan μ-scan
-element-write-h c = pieces-index _ _ _ _ _ _ _ _ _ (c .before .before .before .before .before .before .before .before .before .before .before .before .pieces .inv) _ _ (c .before .before .before .before .before .before .before .before .before .rest2 .ensures) (c .before .before .before .next-field .ensures) _ _ (c .before .q .given .1)
+element-write-h c = pieces-index _ _ _ _ _ _ _ _ _ (c .before .before .before .before .before .before .before .before .before .before .before .before .pieces .inv) _ (c .before .before .before .before .before .before .before .before .before .before .before .stands .ensures) (c .before .before .before .before .before .before .before .before .before .before .if1 .left) _ _ (c .before .before .before .before .before .before .before .before .before .rest2 .ensures) (c .before .before .before .next-field .ensures) _ _ (c .before .q .given .1)
 
 add-count : tie.Need-add-count Inv-pieces μ-pieces Inv-scan μ-scan
 add-count c = search (needs, scanning)
 
 add-at-3 : tie.Need-add-at-3 Inv-pieces μ-pieces Inv-scan μ-scan
-add-at-3 c = search (needs, scanning)
+add-at-3 c = pieces-room _ _ _ _ _ _ _ _ _ (c .before .before .before .before .before .before .before .before .before .before .before .before .pieces .inv) _ (c .before .before .before .before .before .before .before .before .before .before .before .stands .ensures) (c .before .before .before .before .before .before .before .before .before .before .if1 .left) _ _ (c .before .before .before .before .before .before .before .before .before .rest2 .ensures) (c .before .before .before .next-field .ensures) _ _ (c .before .q .given .1) (omega (arith, c .before .before .before .before .before .before .before .before .before .before .before .before .before .before .before .before .before .before .before .before .before .before .before .before .good))
 
 pieces-less : tie.Need-pieces-less Inv-pieces μ-pieces Inv-scan μ-scan
-pieces-less c = search (needs, scanning)
+pieces-less c = pieces-fewer _ _ _ _ _ _ _ _ _ (c .before .before .before .before .before .before .before .before .before .before .before .before .pieces .inv) _ (c .before .before .before .before .before .before .before .before .before .before .before .stands .ensures) (c .before .before .before .before .before .before .before .before .before .before .if1 .left) _ _ (c .before .before .before .before .before .before .before .before .before .rest2 .ensures) (c .before .before .before .next-field .ensures) _ _ (c .before .q .given .1)
 
 pieces-again : tie.Need-pieces-again Inv-pieces μ-pieces Inv-scan μ-scan
-pieces-again c = search (needs, scanning)
+pieces-again c = pieces-more _ _ _ _ _ _ _ _ _ (c .before .before .before .before .before .before .before .before .before .before .before .before .pieces .inv) _ (c .before .before .before .before .before .before .before .before .before .before .before .stands .ensures) (c .before .before .before .before .before .before .before .before .before .before .if1 .left) _ _ (c .before .before .before .before .before .before .before .before .before .rest2 .ensures) (c .before .before .before .next-field .ensures) _ _ (c .before .q .given .1) _ refl
 
 stands-requires-2 : tie.Need-stands-requires-2 Inv-pieces μ-pieces Inv-scan μ-scan
 stands-requires-2 c κs = search (needs, scanning)
@@ -128,9 +130,7 @@ returns : tie.Need-returns Inv-pieces μ-pieces Inv-scan μ-scan
 returns c = search (needs, scanning)
 
 returns-2 : tie.Need-returns-2 Inv-pieces μ-pieces Inv-scan μ-scan
-returns-2 c =
-    pieces-wrong _ _ _ _ _ _ _ _ _ (c .before .before .before .before .before .before .before .before .before .before .before .before .pieces .inv) _ (c .before .before .before .before .before .before .before .before .before .before .before .stands .ensures) (c .before .before .before .before .before .before .before .before .before .before .if1 .left) _ _ (c .before .before .before .before .before .before .before .before .before .rest2 .ensures) (c .before .before .before .next-field .ensures) _ (c .before .enum-told2 .given .1) _
-    (c .known-fault .ensures) _ _
+returns-2 c = pieces-wrong _ _ _ _ _ _ _ _ _ (c .before .before .before .before .before .before .before .before .before .before .before .before .pieces .inv) _ (c .before .before .before .before .before .before .before .before .before .before .before .stands .ensures) (c .before .before .before .before .before .before .before .before .before .before .if1 .left) _ _ (c .before .before .before .before .before .before .before .before .before .rest2 .ensures) (c .before .before .before .next-field .ensures) _ (c .before .enum-told2 .given .1) _ (c .known-fault .ensures) _ _
 
 returns-3 : tie.Need-returns-3 Inv-pieces μ-pieces Inv-scan μ-scan
 returns-3 c = search (needs, scanning)

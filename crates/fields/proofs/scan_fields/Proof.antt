@@ -7,10 +7,10 @@ use Rattle.fields.proofs.scan_fields.Statement.{statement}
 use Rattle.fields.proofs.scan_fields.Tie as tie
 
 abbrev Inv-loop : tie.InvT-loop
-Inv-loop s h₀ at₀ h at = Fields s h at
+Inv-loop s h₀ at₀ key h at = Fields s h at
 
 abbrev μ-loop : tie.MeasureT-loop
-μ-loop s h₀ at₀ h at = 16 - h .fields
+μ-loop s h₀ at₀ key h at = 16 - h .fields
 
 returns : tie.Need-returns Inv-loop μ-loop
 returns c = search (needs, fielding)
@@ -21,11 +21,35 @@ loop-holds c = search (needs, fielding)
 add-line : tie.Need-add-line Inv-loop μ-loop
 add-line c = search (needs, fielding)
 
-field-stands-requires : tie.Need-field-stands-requires Inv-loop μ-loop
-field-stands-requires c κs = search (needs, fielding)
+rest-requires : tie.Need-rest-requires Inv-loop μ-loop
+rest-requires c κs = search (needs, fielding)
+
+slice-aggregate-row-name : tie.Need-slice-aggregate-row-name Inv-loop μ-loop
+slice-aggregate-row-name c = search (needs, fielding)
+
+row-name-requires : tie.Need-row-name-requires Inv-loop μ-loop
+row-name-requires c κs = search (needs, fielding)
+
+enum-known-o : tie.Need-enum-known-o Inv-loop μ-loop
+enum-known-o c = search (needs, fielding)
+
+enum-told : tie.Need-enum-told Inv-loop μ-loop
+enum-told c = search (needs, fielding)
+
+left-with-requires : tie.Need-left-with-requires Inv-loop μ-loop
+left-with-requires c κs = search (needs, fielding)
+
+answer-requires : tie.Need-answer-requires Inv-loop μ-loop
+answer-requires c κs = search (needs, fielding)
 
 returns-2 : tie.Need-returns-2 Inv-loop μ-loop
 returns-2 c = search (needs, fielding)
+
+add-at : tie.Need-add-at Inv-loop μ-loop
+add-at c = search (needs, fielding)
+
+stands-requires : tie.Need-stands-requires Inv-loop μ-loop
+stands-requires c κs = search (needs, fielding)
 
 refused-requires : tie.Need-refused-requires Inv-loop μ-loop
 refused-requires c κs = search (needs, fielding)
@@ -33,44 +57,8 @@ refused-requires c κs = search (needs, fielding)
 returns-3 : tie.Need-returns-3 Inv-loop μ-loop
 returns-3 c = search (needs, fielding)
 
-add-at : tie.Need-add-at Inv-loop μ-loop
-add-at c = search (needs, fielding)
-
-rest-requires : tie.Need-rest-requires Inv-loop μ-loop
-rest-requires c κs = search (needs, fielding)
-
-new-name-requires : tie.Need-new-name-requires Inv-loop μ-loop
-new-name-requires c κs = search (needs, fielding)
-
-enum-known-p : tie.Need-enum-known-p Inv-loop μ-loop
-enum-known-p c = search (needs, fielding)
-
-enum-told : tie.Need-enum-told Inv-loop μ-loop
-enum-told c = search (needs, fielding)
-
-name-fault-requires : tie.Need-name-fault-requires Inv-loop μ-loop
-name-fault-requires c κs = search (needs, fielding)
-
-refused-requires-2 : tie.Need-refused-requires-2 Inv-loop μ-loop
-refused-requires-2 c κs = search (needs, fielding)
-
-returns-4 : tie.Need-returns-4 Inv-loop μ-loop
-returns-4 c = search (needs, fielding)
-
 add-at-2 : tie.Need-add-at-2 Inv-loop μ-loop
 add-at-2 c = search (needs, fielding)
-
-stands-requires : tie.Need-stands-requires Inv-loop μ-loop
-stands-requires c κs = search (needs, fielding)
-
-refused-requires-3 : tie.Need-refused-requires-3 Inv-loop μ-loop
-refused-requires-3 c κs = search (needs, fielding)
-
-returns-5 : tie.Need-returns-5 Inv-loop μ-loop
-returns-5 c = search (needs, fielding)
-
-add-at-3 : tie.Need-add-at-3 Inv-loop μ-loop
-add-at-3 c = search (needs, fielding)
 
 mul-h : tie.Need-mul-h Inv-loop μ-loop
 mul-h c = search (needs, fielding)
@@ -96,23 +84,19 @@ scan-fields-spec =
     returns
     loop-holds
     add-line
-    field-stands-requires
+    rest-requires
+    slice-aggregate-row-name
+    row-name-requires
+    enum-known-o
+    enum-told
+    left-with-requires
+    answer-requires
     returns-2
+    add-at
+    stands-requires
     refused-requires
     returns-3
-    add-at
-    rest-requires
-    new-name-requires
-    enum-known-p
-    enum-told
-    name-fault-requires
-    refused-requires-2
-    returns-4
     add-at-2
-    stands-requires
-    refused-requires-3
-    returns-5
-    add-at-3
     mul-h
     element-write-h
     add-h

@@ -32,8 +32,8 @@ add-behind c = search rows-next
 rest-requires-2 : tie.Need-rest-requires-2 Inv-scan μ-scan
 rest-requires-2 c κs = search needs
 
-rule-row-requires : tie.Need-rule-row-requires Inv-scan μ-scan
-rule-row-requires c κs = search going-room
+read-rule-requires : tie.Need-read-rule-requires Inv-scan μ-scan
+read-rule-requires c κs = search going-room
 
 enum-known-r : tie.Need-enum-known-r Inv-scan μ-scan
 enum-known-r c = search needs
@@ -57,7 +57,7 @@ scan-less : tie.Need-scan-less Inv-scan μ-scan
 scan-less c = search rows-less
 
 scan-again : tie.Need-scan-again Inv-scan μ-scan
-scan-again c = rows-row _ _ _ _ _ _ _ _ (c .before .before .before .before .before .before .before .before .before .before .before .before .before .before .scan .inv) _ (c .before .before .before .before .before .before .before .before .before .before .before .before .before .rest .ensures) _ (c .before .before .before .before .before .before .before .before .before .before .before .before .rule-stands .ensures) (c .before .before .before .before .before .before .before .before .before .before .before .if1 .left) (c .before .before .before .before .before .before .before .before .before .before .if2 .left) _ refl _ (c .before .before .before .before .before .before .before .before .before .rest2 .ensures) _ (c .before .before .before .before .before .before .before .rule-row .ensures .0) _ (c .before .before .before .before .before .before .before .rule-row .ensures .1) _ (c .before .before .before .r2 .given .1) _ _ refl refl _ refl
+scan-again c = rows-row _ _ _ _ _ _ _ _ (c .before .before .before .before .before .before .before .before .before .before .before .before .before .before .scan .inv) _ (c .before .before .before .before .before .before .before .before .before .before .before .before .before .rest .ensures) _ (c .before .before .before .before .before .before .before .before .before .before .before .before .rule-stands .ensures) (c .before .before .before .before .before .before .before .before .before .before .before .if1 .left) (c .before .before .before .before .before .before .before .before .before .before .if2 .left) _ refl _ (c .before .before .before .before .before .before .before .before .before .rest2 .ensures) _ (c .before .before .before .before .before .before .before .read-rule .ensures .0) _ (c .before .before .before .before .before .before .before .read-rule .ensures .1) _ (c .before .before .before .r2 .given .1) _ _ refl refl _ refl
 
 same-length : tie.Need-same-length Inv-scan μ-scan
 same-length c = search going-length
@@ -89,7 +89,7 @@ read-rows-spec =
     rule-stands-requires
     add-behind
     rest-requires-2
-    rule-row-requires
+    read-rule-requires
     enum-known-r
     enum-known-r-2
     mul-rule

@@ -1,39 +1,33 @@
--- A line begins with a sign and a known status: the first piece that is refused decides.
+-- `trigger::read_change` meets its contract. Where a sign stands, the status behind it is looked up; where none stands, the line is refused.
 -- Assumes nothing.
 use borrow.Author.Needs.{needs}
 use Rattle.trigger.proofs.Pieces.{changing}
 use Rattle.trigger.proofs.read_change.Statement.{statement}
 use Rattle.trigger.proofs.read_change.Tie as tie
 
-sign-requires : tie.Need-sign-requires
-sign-requires c κs = search needs
-
-enum-known-g : tie.Need-enum-known-g
-enum-known-g c = search needs
-
-enum-told : tie.Need-enum-told
-enum-told c = search needs
+signed-requires : tie.Need-signed-requires
+signed-requires c κs = search (needs, changing)
 
 returns : tie.Need-returns
 returns c = search (needs, changing)
 
-rest-requires : tie.Need-rest-requires
-rest-requires c κs = search needs
+slice-aggregate-starts : tie.Need-slice-aggregate-starts
+slice-aggregate-starts c = search (needs, changing)
 
-known-in-requires : tie.Need-known-in-requires
-known-in-requires c κs = search needs
+starts-requires : tie.Need-starts-requires
+starts-requires c κs = search (needs, changing)
+
+behind-sign-requires : tie.Need-behind-sign-requires
+behind-sign-requires c κs = search (needs, changing)
 
 enum-known-p : tie.Need-enum-known-p
-enum-known-p c = search needs
+enum-known-p c = search (needs, changing)
 
 enum-known-p-2 : tie.Need-enum-known-p-2
-enum-known-p-2 c = search needs
+enum-known-p-2 c = search (needs, changing)
 
-cast-t11 : tie.Need-cast-t11
-cast-t11 c = search (needs, changing)
-
-add-t13 : tie.Need-add-t13
-add-t13 c = search (needs, changing)
+cast-t14 : tie.Need-cast-t14
+cast-t14 c = search (needs, changing)
 
 returns-2 : tie.Need-returns-2
 returns-2 c = search (needs, changing)
@@ -45,15 +39,13 @@ pub read-change-spec : {M : Type 1} → statement M
 read-change-spec =
     tie.close
     (tie.spec
-    sign-requires
-    enum-known-g
-    enum-told
+    signed-requires
     returns
-    rest-requires
-    known-in-requires
+    slice-aggregate-starts
+    starts-requires
+    behind-sign-requires
     enum-known-p
     enum-known-p-2
-    cast-t11
-    add-t13
+    cast-t14
     returns-2
     returns-3)

@@ -1,0 +1,2 @@
+-- What the code answers for the steps along a condition:
+pub mod Answers
