@@ -1,6 +1,6 @@
 //! The examples of the repository, through the safe functions.
 
-use reambodkin::{Reply, outlook, step};
+use reambodkin::{Reply, outlook, outlook_into, step, step_into};
 
 const SHEET: &[u8] = include_bytes!("../../examples/parcel.sheet");
 const CARD: &[u8] = include_bytes!("../../examples/parcel.card");
@@ -30,4 +30,28 @@ fn a_refusal_names_paper_and_line() {
     let reply = step(SHEET, CARD, b"looked", &mut out);
     assert_eq!((reply.number, reply.paper, reply.line), (2, 3, 1));
     assert_eq!(out, [7; 1_024]);
+}
+
+#[test]
+fn step_names_the_five_numbers() {
+    let mut out = [0; 1_024];
+    let mut numbers = [7; 6];
+    assert_eq!(step_into(SHEET, CARD, FITTING, &mut out, &mut numbers), 0);
+    let written = out.iter().position(|&byte| byte == 0).expect("shorter than the space");
+    // How much was written, then the tasks: `pack`, the second stage.
+    assert_eq!(numbers, [0, 0, 0, written as u64, 0b10, 7]);
+    let reply = step(SHEET, CARD, FITTING, &mut out);
+    assert_eq!((reply.count, reply.tasks), (written, 0b10));
+}
+
+#[test]
+fn outlook_names_the_five_numbers() {
+    let mut out = [u32::MAX; 4_096];
+    let mut numbers = [7; 6];
+    assert_eq!(outlook_into(SHEET, CARD, MISSING, &mut out, &mut numbers), 0);
+    let written = out.iter().position(|&pattern| pattern == u32::MAX).expect("shorter than the space");
+    // An outlook starts no task.
+    assert_eq!(numbers, [0, 0, 0, written as u64, 0, 7]);
+    let reply = outlook(SHEET, CARD, MISSING, &mut out);
+    assert_eq!((reply.count, reply.tasks), (written, 0));
 }

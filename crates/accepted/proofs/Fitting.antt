@@ -8,19 +8,18 @@ use mathlib.Core.Option.{Option, none, some, Option·some-injective, Option·non
 use native.Mathlib.Omega.{arith}
 use lib.ListN.{length, length-append, length-map}
 use Rattle.meaning.specs.Text.{In, text, joined}
-use Rattle.meaning.specs.Refusal.{Answer, taken, LINE, COND}
+use Rattle.meaning.specs.Refusal.{taken, LINE, COND}
 use Rattle.meaning.specs.Limits.{ruleLimit, sheetBytes}
 use Rattle.meaning.specs.Reading.{give, choose, demand, stands, oneOf, lineEnd, paper}
 use Rattle.meaning.specs.Name.{Name, known}
 use Rattle.meaning.specs.Number.{endLine}
 use Rattle.meaning.specs.Condition.{Cond, leavesC}
-use Rattle.meaning.specs.Sheet.{Sheet, Status, always, Rule, statuses, statusNames, eventNames, withRules, leavesOf, leaves}
+use Rattle.meaning.specs.Sheet.{Sheet, Status, always, Rule, statuses, statusNames, eventNames, leavesOf, leaves}
 use Rattle.meaning.specs.ReadCondition.{condition}
-use Rattle.meaning.specs.ReadSheet.{signs, trigger, ruleRow, section, rulesOf, sheet}
+use Rattle.meaning.specs.ReadSheet.{signs, trigger, ruleRow, rulesOf, sheet}
 use Rattle.theory.specs.Lists.{in-cases}
-use Rattle.theory.specs.Readers.{Ensures, Yields, give-ensures, choose-ensures, bind-ensures, any-ensures, ensures-weaker, ensures-both, section-ensures, Holds, paper-holds}
+use Rattle.theory.specs.Readers.{Ensures, give-ensures, choose-ensures, bind-ensures, any-ensures, ensures-weaker, ensures-both, section-ensures, paper-holds}
 use Rattle.theory.specs.Conditions.{condition-good}
-use Rattle.theory.specs.Formed.{Well}
 use Rattle.theory.specs.Sheets.{heads-well}
 use Rattle.verdict.specs.Fits.{Fits}
 use Rattle.verdict.specs.Flat.{words}
@@ -86,10 +85,10 @@ module _ (fields events sts : List Name) (few-statuses : length sts ≤ 32) (few
       give-ensures (h .0)
 
 sheet-fitting : Ensures sheet (λ sh. Fitting (sh .rules))
-unfolding sheet withRules statusNames
+unfolding sheet statusNames
 sheet-fitting =
-    bind-ensures heads-well λ sh h.
-    bind-ensures (rules-fitting (sh .fields) (eventNames (sh .events)) (statusNames (statuses sh)) (omega (arith, length-map (statuses sh) (λ (s : Status). s .name), h .statuses-few)) (h .fields-few)) λ rs g.
+    bind-ensures heads-well λ hd h.
+    bind-ensures (rules-fitting (hd .fields) (eventNames (hd .events)) (statusNames (statuses hd)) (omega (arith, length-map (statuses hd) (λ (s : Status). s .name), h .statuses-few)) (h .fields-few)) λ rs g.
     give-ensures g
 
 -- WHAT FOLLOWS

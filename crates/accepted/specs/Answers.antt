@@ -5,24 +5,24 @@ use lib.ListN.{length, replicate}
 use Rattle.meaning.specs.Refusal.{Answer, taken, refused}
 use Rattle.meaning.specs.Doors as D
 use Rattle.tables.specs.Heads.{padded, asHeads, blank}
-use Rattle.rules.specs.Answers.{asRows, allWords}
-use Rattle.plan.specs.Plan.{asPlan}
+use Rattle.rules.specs.Answers.{allWords}
+use Rattle.tests.specs.Answers.{rowsOf}
+use Rattle.plan.specs.Plan.{planFor}
 use Rattle.accepted.specs.declared.Accepted.{Accepted}
 
 -- a refusal has its number and line, and nothing else
 abbrev pub refusedSheet : ℕ → ℕ → Accepted
-refusedSheet n l = record { number = n; line = l; heads = blank; words = replicate 1024 0; top = 0; order = replicate 64 0; plan = asPlan [] [] }
+refusedSheet n l = record { number = n; line = l; heads = blank; words = replicate 1024 0; top = 0; plan = planFor [] [] }
 
--- the tables, the words of the conditions, the testing order and the rules listed by it
+-- the tables, the words of the conditions, and the tests listed by the testing order
 abbrev pub takenSheet : D.Accepted → Accepted
 takenSheet a = record {
   number = 0;
   line = 0;
-  heads = asHeads (a .sheet);
+  heads = asHeads (a .sheet .heads);
   words = padded 1024 0 (allWords (a .sheet .rules));
   top = length (allWords (a .sheet .rules));
-  order = padded 64 0 (a .order);
-  plan = asPlan (asRows 0 (a .sheet .rules)) (a .order);
+  plan = planFor (rowsOf (a .sheet)) (a .order);
 }
 
 abbrev pub asAccepted : Answer D.Accepted → Accepted

@@ -1,5 +1,6 @@
-// A sheet that is accepted: its tables, and its rules listed by its testing order. Made once for a sheet.
+// A sheet that is accepted: its tables, and its tests listed by its testing order. Made once for a sheet, it serves every card and event line.
 ghost use mathlib.Core.Path.{_≡_};
+ghost use Prim.Native.Nat.{_+_, _≤_};
 ghost use Rattle.meaning.specs.Doors.{readSheet};
 ghost use Rattle.accepted.specs.Answers.{refusedSheet, asAccepted};
 use plan::Plan;
@@ -13,8 +14,7 @@ pub struct Accepted {
     // The words of all conditions, and how many there are.
     pub words: [u64; 1024],
     pub top: usize,
-    // The testing order, two nodes for each status, and the rules by it.
-    pub order: [u8; 64],
+    // The tests in their testing order, two nodes for each status.
     pub plan: Plan,
 }
 
@@ -29,12 +29,19 @@ pub fn refused(number: u8, line: usize) -> Accepted
         heads: tables::no_heads(),
         words: [0; 1024],
         top: 0,
-        order,
-        plan: plan::plan_rules(rules::no_rules(), &order, 0),
+        plan: plan::plan_tests(tests::no_tests(), order, 0),
     }
 }
 
-// Reads a sheet. One that is otherwise in order is refused with 7 where its graph has a cycle.
+// The line of the first rule: behind one for the model and one for each name.
+fn rule_line(fields: usize, events: usize, statuses: usize) -> usize
+    requires { ⌜ (fields ≤ 16) × (events ≤ 16) × (statuses ≤ 32) ⌝ }
+    ensures { λ r. ⌜ r ≡ 2 + fields + events + statuses ⌝ }
+{
+    2 + fields + events + statuses
+}
+
+// Reads a sheet. One that is otherwise in order is refused with CYCLE where its graph has a cycle.
 pub fn accept(s: &[u8]) -> Accepted
     ensures { λ r. ⌜ r ≡ asAccepted (readSheet (now (s .entry))) ⌝ }
 {
@@ -43,23 +50,24 @@ pub fn accept(s: &[u8]) -> Accepted
         return refused(read.number, read.line);
     }
     let heads = read.heads;
-    let rows = read.rules;
+    let rules = read.rules;
     let words = read.words;
     let under = heads.under;
     let statuses = heads.stages + heads.miles;
-    let sorted = graph::testing_order(rows, &words, &under, heads.stages, statuses);
+    let line = rule_line(heads.fields, heads.events, statuses);
+    let tests = tests::tests_of(rules, under, heads.stages, line);
+    let sorted = graph::testing_order(tests, &words, statuses);
     if !sorted.found {
-        return refused(7, 0);
+        return refused(reply::CYCLE, 0);
     }
     let order = sorted.order;
-    let plan = plan::plan_rules(rows, &order, statuses * 2);
+    let plan = plan::plan_tests(tests, order, statuses * 2);
     Accepted {
         number: 0,
         line: 0,
         heads,
         words,
-        top: rows.top,
-        order,
+        top: rules.top,
         plan,
     }
 }

@@ -3,17 +3,17 @@ use Prim.Native.Nat.{ℕ}
 use mathlib.Core.Path.{_≡_, refl, ap}
 use mathlib.Core.List.{List}
 use Rattle.meaning.specs.Refusal.{taken, refused}
-use Rattle.meaning.specs.Sheet.{Sheet}
+use Rattle.meaning.specs.Sheet.{Heads}
 use Rattle.meaning.specs.Card as M
 use Rattle.theory.specs.Numbers.{card-tells, told-taken, told-refused}
 use Rattle.card.specs.declared.CardRead.{CardRead}
 use Rattle.card.specs.Answers.{asCard, asCardRead}
 
-module _ (sh : Sheet) (s : List ℕ) (r : CardRead) (is : r ≡ asCardRead sh (M.readCard sh s)) where
-  pub card-taken : r .number ≡ 0 → (c : M.Card) × (M.readCard sh s ≡ taken c) × (r .card ≡ asCard sh c)
+module _ (hd : Heads) (s : List ℕ) (r : CardRead) (is : r ≡ asCardRead hd (M.readCard hd s)) where
+  pub card-taken : r .number ≡ 0 → (c : M.Card) × (M.readCard hd s ≡ taken c) × (r .card ≡ asCard hd c)
   card-taken z =
-      let (c, e, q) = told-taken (asCardRead sh) (λ r. r .number) (λ r. r .line) (λ c. refl) (λ n p l. (refl, refl)) (card-tells sh s) r is z in
+      let (c, e, q) = told-taken (asCardRead hd) (λ r. r .number) (λ r. r .line) (λ c. refl) (λ n p l. (refl, refl)) (card-tells hd s) r is z in
       (c, e, ap (λ r. r .card) q)
 
-  pub card-refused : (r .number ≡ 0 → ⊥) → M.readCard sh s ≡ refused (r .number) 2 (r .line)
-  card-refused = told-refused (asCardRead sh) (λ r. r .number) (λ r. r .line) (λ c. refl) (λ n p l. (refl, refl)) (card-tells sh s) r is
+  pub card-refused : (r .number ≡ 0 → ⊥) → M.readCard hd s ≡ refused (r .number) 2 (r .line)
+  card-refused = told-refused (asCardRead hd) (λ r. r .number) (λ r. r .line) (λ c. refl) (λ n p l. (refl, refl)) (card-tells hd s) r is

@@ -13,7 +13,8 @@ use Rattle.meaning.specs.Refusal.{Answer, taken, onTaken}
 use Rattle.meaning.specs.Reading.{Reader, after, give, each, answered, paper}
 use Rattle.meaning.specs.Name.{Name}
 use Rattle.meaning.specs.Number.{Entry, endLine}
-use Rattle.meaning.specs.Sheet.{Sheet, statuses, statusNames}
+use Rattle.meaning.specs.Sheet as S
+use Rattle.meaning.specs.Sheet.{statuses, statusNames}
 use Rattle.meaning.specs.Card as M
 use Rattle.meaning.specs.Card.{fieldEntry, statusMark, ended, card, orphan, sheltered, readCard}
 use Rattle.theory.specs.Readers.{after-after, each-length}
@@ -166,12 +167,12 @@ module _ (h : Heads) (sized : Sized h) where
   orphan-room-2 side o x j first e w =
       omega (arith, sized .few-fields, sized .few-statuses, orphan-below side (headsOf h .stages) 0 x (orphan-back _ ∙ ap orphanOf (sym first ∙ e)), stages-length h)
 
-abbrev judged : Sheet → M.Card → Answer M.Card
-judged sh c = sheltered sh c (orphan (c .statuses) 0 (sh .stages))
+abbrev judged : S.Heads → M.Card → Answer M.Card
+judged hd c = sheltered hd c (orphan (c .statuses) 0 (hd .stages))
 
-card-short : (sh : Sheet) (s : List ℕ) → length s ≤ 1024 → readCard sh s ≡ onTaken (answered 2 (card sh 1 s)) (judged sh)
+card-short : (hd : S.Heads) (s : List ℕ) → length s ≤ 1024 → readCard hd s ≡ onTaken (answered 2 (card hd 1 s)) (judged hd)
 unfolding readCard paper
-card-short sh s h = rw (le-leb (length s) 1024 h)
+card-short hd s h = rw (le-leb (length s) 1024 h)
 
 pub paper-long : (h : Heads) (s : List ℕ) (r : CardRead) → 1024 < length s → r ≡ refusedCard 1 0 → r ≡ asCardRead (headsOf h) (readCard (headsOf h) s)
 unfolding readCard paper

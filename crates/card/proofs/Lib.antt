@@ -6,3 +6,5 @@ pub mod Fields
 pub mod Marks
 pub mod Cards
 pub mod Callers
+-- No second answer fits:
+pub mod Only

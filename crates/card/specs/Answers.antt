@@ -7,7 +7,7 @@ use Rattle.meaning.specs.Text.{text}
 use Rattle.meaning.specs.Refusal.{Answer, taken, refused}
 use Rattle.meaning.specs.Name.{Name}
 use Rattle.meaning.specs.Number.{Entry}
-use Rattle.meaning.specs.Sheet.{Sheet}
+use Rattle.meaning.specs.Sheet.{Heads}
 use Rattle.meaning.specs.Card as M
 use Rattle.number.specs.Answers.{coded}
 use Rattle.tables.specs.Heads.{padded}
@@ -31,10 +31,10 @@ abbrev pub textLengths : List Entry → List ℕ
 textLengths es = padded 16 0 (map (λ e. length (e .shown)) es)
 
 -- a card of the sheet
-unfoldable pub asCard : Sheet → M.Card → Card
-asCard sh c = record {
+unfoldable pub asCard : Heads → M.Card → Card
+asCard hd c = record {
   values = valueCodes (c .entries);
-  starts = padded 16 0 (valuePlaces (length (text "case=") + length (sh .model) + 1) (sh .fields) (c .entries));
+  starts = padded 16 0 (valuePlaces (length (text "case=") + length (hd .model) + 1) (hd .fields) (c .entries));
   lengths = textLengths (c .entries);
   marks = padded 32 0 (map markCode (c .statuses));
 }
@@ -42,6 +42,6 @@ asCard sh c = record {
 abbrev pub noCard : Card
 noCard = record { values = replicate 16 0; starts = replicate 16 0; lengths = replicate 16 0; marks = replicate 32 0 }
 
-abbrev pub asCardRead : Sheet → Answer M.Card → CardRead
-asCardRead sh (taken c) = record { number = 0; line = 0; card = asCard sh c }
-asCardRead sh (refused n p l) = record { number = n; line = l; card = noCard }
+abbrev pub asCardRead : Heads → Answer M.Card → CardRead
+asCardRead hd (taken c) = record { number = 0; line = 0; card = asCard hd c }
+asCardRead hd (refused n p l) = record { number = n; line = l; card = noCard }

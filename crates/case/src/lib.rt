@@ -1,53 +1,29 @@
-// The three papers of a case, read: sheet, then card, then event line. The first refusal decides.
+// Card and event line of a case, read under what a sheet says above its rules: one accepted sheet serves many of them. The first refusal decides.
 ghost use mathlib.Core.Path.{_≡_};
-ghost use Rattle.meaning.specs.Doors.{readCase};
-ghost use Rattle.case.specs.Answers.{refusedReply, refusedCase, asCase};
-use accepted::Accepted;
+ghost use Rattle.meaning.specs.Doors.{readTold};
+ghost use Rattle.tables.specs.Heads.{Sized, headsOf};
+ghost use Rattle.case.specs.Answers.{refusedTold, asTold};
 use card::Card;
 use event::Happening;
+use tables::Heads;
 
-// What the papers say, and the values after the event; or a refusal's number, not 0, its paper and its line.
-pub struct CaseRead {
+// What card and event line say; or a refusal's number, not 0, its paper and its line.
+pub struct Told {
     pub number: u8,
     pub paper: u8,
     pub line: usize,
-    pub sheet: Accepted,
     pub card: Card,
     pub happening: Happening,
-    pub values: [u64; 16],
-}
-
-// The numbers that a request returns: number, paper and line of a refusal or 0, how long the card or list is, and the tasks started as a pattern.
-pub struct Reply {
-    pub number: u8,
-    pub paper: u8,
-    pub line: usize,
-    pub count: usize,
-    pub tasks: u32,
-}
-
-// A refusal: its other numbers are 0.
-pub fn refusal(number: u8, paper: u8, line: usize) -> Reply
-    ensures { λ r. ⌜ r ≡ refusedReply number paper line ⌝ }
-{
-    Reply {
-        number,
-        paper,
-        line,
-        count: 0,
-        tasks: 0,
-    }
 }
 
 // Nothing but a number, a paper and a line.
-fn refused(number: u8, paper: u8, line: usize) -> CaseRead
-    ensures { λ r. ⌜ r ≡ refusedCase number paper line ⌝ }
+fn refused(number: u8, paper: u8, line: usize) -> Told
+    ensures { λ r. ⌜ r ≡ refusedTold number paper line ⌝ }
 {
-    CaseRead {
+    Told {
         number,
         paper,
         line,
-        sheet: accepted::refused(0, 0),
         card: Card {
             values: [0; 16],
             starts: [0; 16],
@@ -62,38 +38,29 @@ fn refused(number: u8, paper: u8, line: usize) -> CaseRead
             starts: [0; 16],
             lengths: [0; 16],
         },
-        values: [0; 16],
     }
 }
 
-// Reads the papers in their order.
-pub fn read_case(sheet: &[u8], card: &[u8], event: &[u8]) -> CaseRead
-    ensures { λ r. ⌜ r ≡ asCase (readCase (now (sheet .entry)) (now (card .entry)) (now (event .entry))) ⌝ }
+// Reads the card, then the event line.
+pub fn read_told(heads: Heads, card: &[u8], event: &[u8]) -> Told
+    requires { ⌜ Sized heads ⌝ }
+    ensures { λ r. ⌜ r ≡ asTold (headsOf heads) (readTold (headsOf heads) (now (card .entry)) (now (event .entry))) ⌝ }
 {
-    let sheet = accepted::accept(sheet);
-    if sheet.number != 0 {
-        return refused(sheet.number, 1, sheet.line);
-    }
-    let heads = sheet.heads;
     let read = card::read_card(heads, card);
     if read.number != 0 {
-        return refused(read.number, 2, read.line);
+        return refused(read.number, reply::CARD, read.line);
     }
     let told = event::read_event(heads, event);
     if told.number != 0 {
-        return refused(told.number, 3, told.line);
+        return refused(told.number, reply::EVENT, told.line);
     }
     let card = read.card;
     let happening = told.happening;
-    let given = card.values;
-    let values = moment::put_in(given, happening);
-    CaseRead {
+    Told {
         number: 0,
         paper: 0,
         line: 0,
-        sheet,
         card,
         happening,
-        values,
     }
 }

@@ -8,9 +8,9 @@ use borrow.Author.Tests.{not-true, not-false}
 use lib.ListN.{length, take, drop, replicate, length-drop}
 use lib.Seq.{sets, drop-drop}
 use Rattle.meaning.specs.Text.{text, begins}
-use Rattle.meaning.specs.Reading.{Got, got, wrong, Reader, after, give, notEnded, stands, due}
+use Rattle.meaning.specs.Reading.{Got, got, wrong, after, give, due}
 use Rattle.meaning.specs.Name.{Name}
-use Rattle.meaning.specs.Condition.{Leaf, Cond, Item, leavesC, leavesI}
+use Rattle.meaning.specs.Condition.{Leaf, Item, leavesC, leavesI}
 use Rattle.meaning.specs.ReadCondition.{readLeaf, readCond, itemWith, readItem, condition}
 use Rattle.theory.specs.Lists.{take-sets}
 use Rattle.theory.specs.Built.{due-built, cond-fault}
@@ -26,7 +26,7 @@ use Rattle.item.specs.declared.CondRead.{CondRead}
 use Rattle.item.specs.declared.CondRead.the-variants.{At, Refused}
 use Rattle.item.specs.Answers.{asPlace, asItem, itemSpace, cleared, Stored, Within, further, closing, closedBy}
 use Rattle.item.proofs.Callers.{placeKind, place-within, place-further, stored-read, stored-cleared}
-use Rattle.condition.proofs.Kept.{Tells, items-tell, conditions-tell, Found, given-found, given-refused, gives-found, gives-refused}
+use Rattle.condition.proofs.Kept.{items-tell, conditions-tell, Found, given-found, given-refused, gives-found, gives-refused}
 
 -- the cases of an item's reader
 module _ (st fd : List Name) (l k : ℕ) (s : List ℕ) where

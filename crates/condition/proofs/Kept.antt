@@ -6,7 +6,7 @@ use mathlib.Core.List.{List}
 use native.Mathlib.Omega.{arith}
 use lib.ListN.{length, take, drop, length-append}
 use lib.Seq.{sets}
-use Rattle.meaning.specs.Reading.{Got, got, wrong}
+use Rattle.meaning.specs.Reading.{got, wrong}
 use Rattle.meaning.specs.Name.{Name}
 use Rattle.meaning.specs.Condition.{Cond, And, Item, leavesC, leavesA, leavesI}
 use Rattle.theory.specs.Told.{Told, took, told-weaker}

@@ -3,3 +3,5 @@ pub mod Kept
 pub mod Listed
 pub mod Items
 pub mod Callers
+-- No second answer fits:
+pub mod Only

@@ -11,9 +11,9 @@ use lib.Seq.{sets, take-take, drop-drop}
 use mir.Syntax.{w64}
 use mir.Val.{Fits}
 use Rattle.meaning.specs.Text.{text, begins}
-use Rattle.meaning.specs.Reading.{Got, got, wrong, Reader, after, _>>=_, give, choose, stands}
+use Rattle.meaning.specs.Reading.{got, wrong, Reader, after, _>>=_, give, choose, stands}
 use Rattle.meaning.specs.Name.{Name}
-use Rattle.meaning.specs.Condition.{Leaf, Cond, And, Item, leavesC, leavesA}
+use Rattle.meaning.specs.Condition.{Cond, And, leavesC, leavesA}
 use Rattle.meaning.specs.ReadCondition.{readAnd, readCond, readItem}
 use Rattle.theory.specs.Lists.{sets-append, take-sets}
 use Rattle.theory.specs.Told.{Told, Any, took, told-weaker}

@@ -13,6 +13,7 @@ use Rattle.meaning.specs.Text.{In, keep, joined}
 use Rattle.meaning.specs.Number.{limit}
 use Rattle.meaning.specs.Condition.{Operator, below, atMost, equal, atLeast, above, Comparison, Leaf, Cond, answers, leavesC}
 use Rattle.meaning.specs.Sheet.{Sheet, Rule, leavesOf, leaves}
+use Rattle.meaning.specs.Tests.{tests}
 use Rattle.meaning.specs.Outlook.{insert, ascending, compares, comparisons, cutsAt, cuts}
 use Rattle.theory.specs.Lists.{joined-one, joined-same, map-joined, joined-twice}
 use Rattle.theory.specs.Conditions.{LeafIn}
@@ -20,6 +21,7 @@ use Rattle.theory.specs.Ascending.{Placing, lower, higher, placing, insert-lowe
 use Rattle.verdict.specs.Flat.{word, bit, comparisonWord, leafWord, words}
 use Rattle.verdict.specs.Fits.{Fits}
 use Rattle.verdict.proofs.Words.{bit-small, kind-of, field-of, number-of}
+use Rattle.theory.specs.Tested.{leaves-same}
 use Rattle.verdict.proofs.Leaves.{words-leaves}
 use Rattle.sets.proofs.Callers.{ascending-few}
 use Rattle.cuts.specs.Codes.{cutCode, wordCuts, cutCodes}
@@ -213,7 +215,7 @@ module _ (f : ℕ) where
     rule-cuts (some c) h = rw (some-words c) (condition-cuts c (h c refl))
 
     pub sheet-cuts : (sh : Sheet) → ((r : Rule) → In r (sh .rules) → (c : Cond) → r .condition ≡ some c → Fits c)
-        → cutCodes f (joined (λ r. wordsIn (r .condition)) (sh .rules)) ≡ map suc (cuts sh f)
+        → cutCodes f (joined (λ r. wordsIn (r .condition)) (sh .rules)) ≡ map suc (cuts (tests sh) f)
     unfolding cutCodes cuts comparisons leaves
     sheet-cuts sh fits =
         ap ascending (joined-twice (wordCuts f) (λ (r : Rule). wordsIn (r .condition)) (sh .rules)
@@ -221,6 +223,7 @@ module _ (f : ℕ) where
         ∙ sym (map-joined suc (λ (r : Rule). joined (leafCuts f) (leavesOf (r .condition))) (sh .rules))
         ∙ ap (map suc) (sym (joined-twice near (compares f) (leaves (sh .rules)) ∙ joined-twice (leafCuts f) (λ (r : Rule). leavesOf (r .condition)) (sh .rules))))
         ∙ ascending-next (joined near (joined (compares f) (leaves (sh .rules))))
+        ∙ ap (λ xs. map suc (ascending (joined near (joined (compares f) xs)))) (sym (leaves-same sh))
 
 -- how many codes there can be: two of a word
 pub cut-codes-few : (f : ℕ) (ws : List ℕ) → length (cutCodes f ws) ≤ 2 * length ws

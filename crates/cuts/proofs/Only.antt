@@ -1,15 +1,12 @@
 -- No second answer fits: the contract of the public function determines what it answers, and the lent space.
-use Prim.Native.Nat.{ℕ}
-use mathlib.Core.Path.{_≡_}
-use mathlib.Core.List.{List}
-use lib.ListN.{take}
-use Rattle.sets.specs.Front.{Front}
+use denote.Ref.{now}
+use Rattle.theory.specs.Determined.{Determines, Settles}
 use Rattle.sets.proofs.Only.{front-count-only, front-space-only}
-use Rattle.cuts.specs.Codes.{cutCodes}
+use Rattle.cuts.proofs.field_cuts.Reads as FieldCuts
 
-module _ (words : List ℕ) (top f : ℕ) (s : List ℕ) (r q : ℕ) (t u : List ℕ) where
-  pub field-cuts-count-only : Front (cutCodes f (take top words)) r s t → Front (cutCodes f (take top words)) q s u → r ≡ q
-  field-cuts-count-only = front-count-only
+pub field-cuts-count-only : Determines FieldCuts.Learnt
+field-cuts-count-only κs a r q s t h g = front-count-only h g
 
-  pub field-cuts-space-only : Front (cutCodes f (take top words)) r s t → Front (cutCodes f (take top words)) q s u → t ≡ u
-  field-cuts-space-only = front-space-only
+-- the lent space is the fourth parameter
+pub field-cuts-space-only : Settles FieldCuts.Learnt (λ κs r s. now (s .1 .1 .1 .0))
+field-cuts-space-only κs a r q s t h g = front-space-only h g

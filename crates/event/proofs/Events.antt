@@ -13,7 +13,8 @@ use Rattle.meaning.specs.Refusal.{Answer, taken, refused, LINE}
 use Rattle.meaning.specs.Reading.{Got, got, wrong, after, give, each, lineEnd, paperEnd, answered, paper}
 use Rattle.meaning.specs.Name.{Name, known}
 use Rattle.meaning.specs.Number.{Entry, entry}
-use Rattle.meaning.specs.Sheet.{Sheet, eventNames}
+use Rattle.meaning.specs.Sheet as S
+use Rattle.meaning.specs.Sheet.{eventNames}
 use Rattle.meaning.specs.Card as M
 use Rattle.meaning.specs.Card.{Put, put, carriedBy, happening, readEvent}
 use Rattle.theory.specs.Built.{Built, bind-built, lineEnd-built, paperEnd-built, line-fault}
@@ -90,9 +91,9 @@ happened-as h t =
 -- THE PAIRS
 
 -- a pair of the meaning is a piece that the code reads
-put-is : (sh : Sheet) (f l : ℕ) (t : List ℕ) → put sh f l t ≡ after (spaced (getD (sh .fields) f []) l t) (λ e. give (record { field = f; entry = e }))
+put-is : (hd : S.Heads) (f l : ℕ) (t : List ℕ) → put hd f l t ≡ after (spaced (getD (hd .fields) f []) l t) (λ e. give (record { field = f; entry = e }))
 unfolding put
-put-is sh f l t = simp after-after
+put-is hd f l t = simp after-after
 
 abbrev fieldOf : Put → ℕ
 fieldOf q = q .field

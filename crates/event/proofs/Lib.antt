@@ -2,3 +2,5 @@
 pub mod Sheets
 pub mod Events
 pub mod Callers
+-- No second answer fits:
+pub mod Only

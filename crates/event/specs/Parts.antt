@@ -5,7 +5,7 @@ use mathlib.Core.List.{List, [], map}
 use lib.ListN.{length, drop, getD}
 use Rattle.meaning.specs.Refusal.{LINE}
 use Rattle.meaning.specs.Reading.{Reader, after, each, lineEnd, paperEnd}
-use Rattle.meaning.specs.Sheet.{Sheet}
+use Rattle.meaning.specs.Sheet as M
 use Rattle.meaning.specs.Card.{Put, put, carriedBy}
 use Rattle.text.specs.declared.Known.{Known}
 use Rattle.text.specs.declared.Known.the-variants as K
@@ -26,10 +26,10 @@ abbrev pub eventEnd : Reader (Unit {0})
 eventEnd l s = after (lineEnd LINE l s) (λ _. paperEnd)
 
 -- the pairs of an event line, for these fields of the sheet
-pub record Puts (sh : Sheet) (p count : ℕ) (fields values starts lengths : List ℕ) (ps : List Put) : Type 0 where
+pub record Puts (hd : M.Heads) (p count : ℕ) (fields values starts lengths : List ℕ) (ps : List Put) : Type 0 where
   pub counted : count ≡ length ps
   pub told : fields ≡ padded 16 0 (map (λ q. q .field) ps)
-  pub rows : Rows (p + 1) (map (λ q. getD (sh .fields) (q .field) []) ps) values starts lengths (map (λ q. q .entry) ps)
+  pub rows : Rows (p + 1) (map (λ q. getD (hd .fields) (q .field) []) ps) values starts lengths (map (λ q. q .entry) ps)
 
 pub record PutsAs (h : Heads) (s : List ℕ) (event p : ℕ) (r : PutsRead) : Type 0 where
   pub gave : Gave (Puts (headsOf h) p (r .count) (r .fields) (r .values) (r .starts) (r .lengths)) s 1 (r .number) 1 (r .at)

@@ -13,7 +13,7 @@ use lib.Seq.{drop-cons, drop-drop, take-nil}
 use Rattle.meaning.specs.Text.{text, begins, any, isIn}
 use Rattle.meaning.specs.Reading.{Got, wrong, Reader, after, demand}
 use Rattle.meaning.specs.Name.{Name, known}
-use Rattle.meaning.specs.Sheet.{Sheet}
+use Rattle.meaning.specs.Sheet.{Heads}
 use Rattle.meaning.specs.ReadSheet.{carried}
 use Rattle.theory.specs.Answered.{Left, left-got, left-wrong}
 use Rattle.theory.specs.Built.{known-built}
@@ -74,7 +74,7 @@ module _ (so : List ℕ) (p is : Known) (read : p ≡ is) where
 pub ruleset fielding = (field-unknown, field-many, field-twice, field-next)
 
 -- WHAT IS LEFT OF A LINE, where it carries the fields so far
-module _ (fields : List Name) (so : List ℕ) (most count : ℕ) (ending : List ℕ → Reader Sheet) {x : Got Sheet} {line at : ℕ} {s : List ℕ}
+module _ (fields : List Name) (so : List ℕ) (most count : ℕ) (ending : List ℕ → Reader Heads) {x : Got Heads} {line at : ℕ} {s : List ℕ}
     (left : Left x (λ l t. after (carried fields (suc (most - count)) so l t) ending) line at s) where
   -- no further field
   pub fields-over : begins (text " ") (drop at s) ≡ false → Left x (ending so) line at s
@@ -82,7 +82,7 @@ module _ (fields : List Name) (so : List ℕ) (most count : ℕ) (ending : List 
   fields-over e = record { within = left .within; is = left .is ∙ rw (stands-not (text " ") line (drop at s) false (sym e) refl) }
 
   module _ (space : begins (text " ") (drop at s) ≡ true) where
-    abbrev new : ℕ → Reader Sheet
+    abbrev new : ℕ → Reader Heads
     new f = λ l t. after (demand 3 (not (isIn f so)) l t) (λ u l t. after (carried fields (most - count) (so ++ (f ∷ [])) l t) ending)
 
     spaced : Left x (λ l t. after (known fields l t) new) line (at + 1) s

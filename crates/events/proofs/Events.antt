@@ -7,7 +7,8 @@ use lib.ListN.{length, take, drop, set, length-append}
 use Rattle.meaning.specs.Text.{text, joined}
 use Rattle.meaning.specs.Reading.{Reader, after}
 use Rattle.meaning.specs.Name.{Name, newName}
-use Rattle.meaning.specs.Sheet.{Sheet, Event, eventNames, statusNames, statuses}
+use Rattle.meaning.specs.Sheet as M
+use Rattle.meaning.specs.Sheet.{Event, eventNames, statusNames, statuses}
 use Rattle.meaning.specs.ReadSheet.{carried, eventRow}
 use Rattle.theory.specs.Lists.{joined-more}
 use Rattle.theory.specs.Readers.{after-after}
@@ -23,28 +24,28 @@ use Rattle.fields.proofs.Sections.{closing, Going, going-start}
 
 -- WHERE THE SECTION STANDS
 pub record Events (s : List ℕ) (h : Heads) (at : ℕ) : Type 0 where
-  pub sheet : Sheet
+  pub sheet : M.Heads
   pub going : Going (text "event=") (eventRow (sheet .fields)) (withEvents sheet) 16 s (eventsPart 1 s) h at
 
 pub events-start : (s : List ℕ) (before : HeadsRead) → Reads NoEvents s (fieldsPart 1 s) before → before .number ≡ 0 → Events s (before .heads) (before .at)
 events-start s before read z = let c = read .came z in record { sheet = c .sheet; going = going-start c (c .rest) (rw (c .same)) }
 
 -- A ROW
-pub names-events : (sh : Sheet) (so : List Event) → allNames (withEvents sh so) ≡ sh .fields ++ eventNames so
+pub names-events : (hd : M.Heads) (so : List Event) → allNames (withEvents hd so) ≡ hd .fields ++ eventNames so
 unfolding allNames statusNames statuses
-names-events sh so = append-nil (sh .fields ++ eventNames so)
+names-events hd so = append-nil (hd .fields ++ eventNames so)
 
 -- behind the fields, and behind the name
-abbrev pub ending : Name → (Event → Reader Sheet) → List ℕ → Reader Sheet
+abbrev pub ending : Name → (Event → Reader M.Heads) → List ℕ → Reader M.Heads
 ending w g fs = closing (g (record { name = w; carries = fs }))
 
-abbrev pub tail : List Name → List Event → Name → (Event → Reader Sheet) → Reader Sheet
+abbrev pub tail : List Name → List Event → Name → (Event → Reader M.Heads) → Reader M.Heads
 tail fields so w g = λ l t. after (carried fields (suc (length fields)) [] l t) (ending w g)
 
-pub rows : (sh : Sheet) (so : List Event) (g : Event → Reader Sheet) (l : ℕ) (t : List ℕ)
-    → after (eventRow (sh .fields) so l t) g ≡ after (newName (allNames (withEvents sh so)) l t) (λ w. tail (sh .fields) so w g)
+pub rows : (hd : M.Heads) (so : List Event) (g : Event → Reader M.Heads) (l : ℕ) (t : List ℕ)
+    → after (eventRow (hd .fields) so l t) g ≡ after (newName (allNames (withEvents hd so)) l t) (λ w. tail (hd .fields) so w g)
 unfolding eventRow
-rows sh so g l t = rw (names-events sh so) (simp after-after)
+rows hd so g l t = rw (names-events hd so) (simp after-after)
 
 -- ONE MORE EVENT
 
@@ -57,8 +58,8 @@ abbrev pub carrying : List ℕ → Heads → Heads
 carrying cs h =
     tabled (h .model) (h .fields) (h .events) (h .stages) (h .miles) (h .names) cs (h .carries) (h .under)
 
-module _ (sh : Sheet) (so : List Event) where
-  pub cells-none : (h : Heads) → h ≡ asHeads (withEvents sh so) → h ≡ carrying (cells so []) h
+module _ (hd : M.Heads) (so : List Event) where
+  pub cells-none : (h : Heads) → h ≡ asHeads (withEvents hd so) → h ≡ carrying (cells so []) h
   unfolding asHeads
   cells-none h is = rw (append-nil (joined carriedRow so), ← ap (λ (g : Heads). g .carried) is)
 
@@ -73,12 +74,12 @@ module _ (sh : Sheet) (so : List Event) where
   cells-part fs x n y z = rw (y, z, ← append-nil (joined carriedRow so ++ fs)) (padded-part 256 0 (joined carriedRow so) fs [])
 
   module _ (e : Event) where
-    pub names-event : allNames (withEvents sh (so ++ (e ∷ []))) ≡ allNames (withEvents sh so) ++ (e .name ∷ [])
+    pub names-event : allNames (withEvents hd (so ++ (e ∷ []))) ≡ allNames (withEvents hd so) ++ (e .name ∷ [])
     unfolding eventNames
-    names-event = rw (names-events sh (so ++ (e ∷ [])), names-events sh so) (simp (map-append, append-assoc))
+    names-event = rw (names-events hd (so ++ (e ∷ [])), names-events hd so) (simp (map-append, append-assoc))
 
-    module _ (few : length (e .carries) ≤ 16) (room : length so < 16) (plain : Plain (withEvents sh so)) where
-      pub plain-event : Again (allNames (withEvents sh (so ++ (e ∷ [])))) → Plain (withEvents sh (so ++ (e ∷ [])))
+    module _ (few : length (e .carries) ≤ 16) (room : length so < 16) (plain : Plain (withEvents hd so)) where
+      pub plain-event : Again (allNames (withEvents hd (so ++ (e ∷ [])))) → Plain (withEvents hd (so ++ (e ∷ [])))
       plain-event a =
           let n = length-append so (e ∷ []) in
           let rows : length (joined carriedRow so ++ carriedRow e) ≡ 16 * length (so ++ (e ∷ []))
@@ -91,9 +92,9 @@ module _ (sh : Sheet) (so : List Event) where
           sym (rw (joined-more carriedRow so e, ← append-assoc (joined carriedRow so) (e .carries))
           (padded-more 256 0 (joined carriedRow so ++ e .carries) (16 - length (e .carries)) (omega (arith, plain .carried, length-append (joined carriedRow so) (e .carries)))))
 
-      pub heads-event : (h old : Heads) → h ≡ carrying (cells so (e .carries)) old → old ≡ asHeads (withEvents sh so) → (x count : ℕ) → x ≡ length so → count ≡ length (e .carries)
-          → (n w : ℕ) → set (old .names) n w ≡ asHeads (withEvents sh (so ++ (e ∷ []))) .names
-          → tabled (h .model) (h .fields) (x + 1) (h .stages) (h .miles) (set (h .names) n w) (h .carried) (set (h .carries) x count) (h .under) ≡ asHeads (withEvents sh (so ++ (e ∷ [])))
+      pub heads-event : (h old : Heads) → h ≡ carrying (cells so (e .carries)) old → old ≡ asHeads (withEvents hd so) → (x count : ℕ) → x ≡ length so → count ≡ length (e .carries)
+          → (n w : ℕ) → set (old .names) n w ≡ asHeads (withEvents hd (so ++ (e ∷ []))) .names
+          → tabled (h .model) (h .fields) (x + 1) (h .stages) (h .miles) (set (h .names) n w) (h .carried) (set (h .carries) x count) (h .under) ≡ asHeads (withEvents hd (so ++ (e ∷ [])))
       unfolding asHeads statuses
       heads-event h old is old-is x count x-is count-is n w names =
           rw (is, names, cells-all, old-is, x-is, count-is, mapped-set 16 (λ (y : Event). length (y .carries)) so e room, length-append so (e ∷ []))

@@ -1,19 +1,10 @@
 -- No second answer fits: each public function's contract determines what it answers.
-use Prim.Native.Nat.{ℕ}
-use mathlib.Core.Path.{_≡_}
-use mathlib.Core.Bool.{false}
-use mathlib.Core.List.{List}
-use Rattle.theory.specs.Determined.{only}
-use Rattle.text.specs.declared.Known.{Known}
-use Rattle.fields.specs.declared.HeadsRead.{HeadsRead}
-use Rattle.fields.specs.Held.{Reads}
-use Rattle.fields.proofs.Only.{reads-only}
-use Rattle.events.specs.Answers.{knownFault}
-use Rattle.events.specs.Held.{NoStatuses}
-use Rattle.events.specs.Parts.{eventsPart}
+use Rattle.theory.specs.Determined.{Determines, only}
+use Rattle.events.proofs.known_fault.Reads as KnownFault
+use Rattle.events.proofs.read_events.Reads as ReadEvents
 
-pub known-fault-only : (p : Known) (r q : ℕ) → r ≡ knownFault p → q ≡ knownFault p → r ≡ q
-known-fault-only p r q = only
+pub known-fault-only : Determines KnownFault.Learnt
+known-fault-only κs a r q s t = only
 
-pub read-events-only : (s : List ℕ) (r q : HeadsRead) → Reads (NoStatuses false) s (eventsPart 1 s) r → Reads (NoStatuses false) s (eventsPart 1 s) q → r ≡ q
-read-events-only s = reads-only s (eventsPart 1 s)
+pub read-events-only : Determines ReadEvents.Learnt
+read-events-only κs a r q s t h g = only (h .is) (g .is)

@@ -121,14 +121,14 @@ module _ (s : List ℕ) (e n line w fields : ℕ) (h : Heads) (at count : ℕ) (
         pieces-done at′ z =
             let ev : Event = record { name = i .head .row .name; carries = i .so } in
             let few : length (i .so) ≤ 16 = omega (arith, i .count-is, i .few, i .head .fixed) in
-            let sh = i .head .events .sheet in
+            let hd = i .head .events .sheet in
             let g = i .head .events .going in
             record {
-              sheet = sh;
+              sheet = hd;
               going =
-                  going-more g (i .head .row) (i .head .fixed .4) ev at′ (rw (z, ← i .head .fixed .2) (left-closed _ over (sym feed ∙ not-false c u))) (names-event sh evs ev) _
-                  (heads-event sh evs ev few (i .head .row .room) (g .plain) h (i .head .old) (i .is) (g .is) e count (omega (arith, i .head .fixed .0, counted _ _ (g .is))) (i .count-is) n w)
-                  (plain-event sh evs ev few (i .head .row .room) (g .plain));
+                  going-more g (i .head .row) (i .head .fixed .4) ev at′ (rw (z, ← i .head .fixed .2) (left-closed _ over (sym feed ∙ not-false c u))) (names-event hd evs ev) _
+                  (heads-event hd evs ev few (i .head .row .room) (g .plain) h (i .head .old) (i .is) (g .is) e count (omega (arith, i .head .fixed .0, counted _ _ (g .is))) (i .count-is) n w)
+                  (plain-event hd evs ev few (i .head .row .room) (g .plain));
             }
 
     -- a piece stands there

@@ -6,7 +6,7 @@ use native.Mathlib.Omega.{arith}
 use borrow.Author.Tests.{le-leb, lt-leb}
 use lib.ListN.{length, drop, set}
 use Rattle.sets.specs.Front.{Front}
-use Rattle.case.specs.declared.Reply.{Reply}
+use Rattle.reply.specs.declared.Reply.{Reply}
 use Rattle.exports.specs.Exports.{numbers, withPlaces, numberTold, placesTold, withRoom}
 
 -- a place among five

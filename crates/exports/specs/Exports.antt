@@ -5,7 +5,7 @@ use mathlib.Core.List.{List, _∷_, [], _++_}
 use lib.ListN.{length, drop}
 use lib.Dec.{leb}
 use Rattle.meaning.specs.Refusal.{ROOM}
-use Rattle.case.specs.declared.Reply.{Reply}
+use Rattle.reply.specs.declared.Reply.{Reply}
 
 -- the numbers of a reply, in the order in which they are told
 abbrev pub numbers : Reply → List ℕ

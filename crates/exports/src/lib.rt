@@ -5,9 +5,9 @@ ghost use Prim.Native.Nat.{_≤_};
 ghost use lib.ListN.{length, drop};
 ghost use Rattle.meaning.specs.Doors.{stepReply, stepSpace, outlookReply, outlookSpace};
 ghost use Rattle.meaning.specs.Desk.{deskOutput};
-ghost use Rattle.case.specs.Answers.{asReply};
+ghost use Rattle.reply.specs.Answers.{asReply};
 ghost use Rattle.exports.specs.Exports.{numbers, withPlaces, numberTold, placesTold, withRoom};
-use case::Reply;
+use reply::Reply;
 
 // Puts the numbers of a reply into the first five places, and tells the first.
 fn tell(told: Reply, reply: &mut [u64]) -> u64

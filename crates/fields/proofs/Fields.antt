@@ -12,7 +12,8 @@ use mir.Syntax.{w64}
 use Rattle.meaning.specs.Text.{text, begins}
 use Rattle.meaning.specs.Reading.{Reader, after}
 use Rattle.meaning.specs.Name.{Name, newName}
-use Rattle.meaning.specs.Sheet.{Sheet, eventNames, statusNames, statuses}
+use Rattle.meaning.specs.Sheet as M
+use Rattle.meaning.specs.Sheet.{eventNames, statusNames, statuses}
 use Rattle.meaning.specs.ReadSheet.{fieldRow}
 use Rattle.theory.specs.Fixed.{left-open, left-closed}
 use Rattle.theory.specs.Readers.{after-after}
@@ -42,10 +43,10 @@ names-fields : (m : Name) (fs : List Name) → allNames (withFields m fs) ≡ fs
 unfolding allNames eventNames statusNames statuses
 names-fields m fs = simp append-nil
 
-abbrev tail : List Name → Name → (Name → Reader Sheet) → Reader Sheet
+abbrev tail : List Name → Name → (Name → Reader M.Heads) → Reader M.Heads
 tail so w g = closing (g w)
 
-rows : (m : Name) (so : List Name) (g : Name → Reader Sheet) (l : ℕ) (t : List ℕ) → after (fieldRow so l t) g ≡ after (newName (allNames (withFields m so)) l t) (λ w. tail so w g)
+rows : (m : Name) (so : List Name) (g : Name → Reader M.Heads) (l : ℕ) (t : List ℕ) → after (fieldRow so l t) g ≡ after (newName (allNames (withFields m so)) l t) (λ w. tail so w g)
 unfolding fieldRow
 rows m so g l t = rw (names-fields m so) (simp after-after)
 

@@ -11,7 +11,8 @@ use mir.Syntax.{w64}
 use Rattle.meaning.specs.Text.{text, begins, joined}
 use Rattle.meaning.specs.Reading.{Reader, after, give, due}
 use Rattle.meaning.specs.Name.{Name, name}
-use Rattle.meaning.specs.Sheet.{Sheet, eventNames, statusNames, statuses}
+use Rattle.meaning.specs.Sheet as M
+use Rattle.meaning.specs.Sheet.{eventNames, statusNames, statuses}
 use Rattle.theory.specs.Answered.{Left, left-start, left-got, left-wrong}
 use Rattle.theory.specs.Fixed.{due-off, left-open, left-closed}
 use Rattle.theory.specs.Built.{name-built}
@@ -31,7 +32,7 @@ use Rattle.fields.proofs.Rows.{tabled}
 use Rattle.fields.proofs.Sections.{reads-wrong, reads-got, closing}
 
 -- behind the name
-abbrev ending : Name → Reader Sheet
+abbrev ending : Name → Reader M.Heads
 ending w = closing (give (withFields w []))
 
 module _ (s : List ℕ) (b : Bool) (key : b ≡ begins (text "model=") s) where
@@ -76,7 +77,7 @@ module _ (s : List ℕ) (b : Bool) (key : b ≡ begins (text "model=") s) where
           })
           unfolding asHeads padded allNames eventNames statusNames statuses joined
           model-read h e at z =
-              reads-got {sh = withFields (take n (drop 6 s)) []} NoFields refl (record { names = refl; carried = refl; few-fields = omega arith; few-events = omega arith; few-statuses = omega arith }) _
+              reads-got {hd = withFields (take n (drop 6 s)) []} NoFields refl (record { names = refl; carried = refl; few-fields = omega arith; few-events = omega arith; few-statuses = omega arith }) _
               (rw (e, name-number p (drop 6 s) piece w n told)) refl (rw z (left-closed _ named (sym feed ∙ not-false c u)))
 
 pub ruleset modelling = (model-other, model-misnamed, model-room, model-open, stands-room, model-read)

@@ -12,7 +12,7 @@ use lib.Seq.{drop-drop}
 use Rattle.meaning.specs.Text.{begins}
 use Rattle.meaning.specs.Reading.{Got, got, wrong, Reader, after, give, lineEnd}
 use Rattle.meaning.specs.Name.{Name, newName}
-use Rattle.meaning.specs.Sheet.{Sheet}
+use Rattle.meaning.specs.Sheet as M
 use Rattle.meaning.specs.ReadSheet.{section}
 use Rattle.theory.specs.Answered.{Left, left-got, left-wrong}
 use Rattle.theory.specs.Built.{newName-built}
@@ -36,39 +36,39 @@ use Rattle.fields.proofs.Small.{told-fault}
 use Rattle.fields.proofs.Rows.{Few, few-rows, names-stored, names-so-far}
 
 -- the end of a line, and what is read behind it
-abbrev pub closing : Reader Sheet → Reader Sheet
+abbrev pub closing : Reader M.Heads → Reader M.Heads
 closing k = λ l t. after (lineEnd 2 l t) (λ u. k)
 
 -- HANDING ON
 
 -- the sheet that was read, as the answer has it
-pub reads-got : {x : Got Sheet} {s : List ℕ} {l at : ℕ} {sh : Sheet} (Q : Sheet → Type 0) → Q sh → Plain sh → (h : Heads) → h ≡ asHeads sh → l ≡ nextLine sh → Left x (give sh) l at s
+pub reads-got : {x : Got M.Heads} {s : List ℕ} {l at : ℕ} {hd : M.Heads} (Q : M.Heads → Type 0) → Q hd → Plain hd → (h : Heads) → h ≡ asHeads hd → l ≡ nextLine hd → Left x (give hd) l at s
     → Reads Q s x (record { number = 0; line = l; at = at; heads = h })
-reads-got {s = s} {at = at} {sh = sh} Q q plain h is z left =
+reads-got {s = s} {at = at} {hd = hd} Q q plain h is z left =
     let back : length s - (length s - at) ≡ at = omega (arith, left .within) in
     record {
       is = rw (left .is, is, length-drop at s, back);
-      came = λ n. record { sheet = sh; rest = q; plain = plain; within = left .within; heads = is; same = rw (← z) (left .is) };
+      came = λ n. record { sheet = hd; rest = q; plain = plain; within = left .within; heads = is; same = rw (← z) (left .is) };
     }
 
-module _ {Q : Sheet → Type 0} {s : List ℕ} {r : HeadsRead} where
+module _ {Q : M.Heads → Type 0} {s : List ℕ} {r : HeadsRead} where
   -- a refusal of what is read
-  pub reads-wrong : {x : Got Sheet} (n l : ℕ) → (n ≡ 0 → ⊥) → x ≡ wrong n l → r ≡ refusal n l → Reads Q s x r
+  pub reads-wrong : {x : Got M.Heads} (n l : ℕ) → (n ≡ 0 → ⊥) → x ≡ wrong n l → r ≡ refusal n l → Reads Q s x r
   reads-wrong n l ne e q = rw (e, q) record { is = refl; came = λ z. absurd (ne z) }
 
   -- a refusal of what was read before
-  pub reads-handed : (x : Got Sheet) (f : Sheet → Reader Sheet) → r ≡ asHeadsRead s x → (r .number ≡ 0 → ⊥) → Reads Q s (after x f) r
-  reads-handed (got sh l t) f e ne = absurd (ne (rw e))
+  pub reads-handed : (x : Got M.Heads) (f : M.Heads → Reader M.Heads) → r ≡ asHeadsRead s x → (r .number ≡ 0 → ⊥) → Reads Q s (after x f) r
+  reads-handed (got hd l t) f e ne = absurd (ne (rw e))
   reads-handed (wrong n l) f e ne = reads-wrong n l (λ z. ne (rw e z)) refl e
 
 -- WHERE A SECTION STANDS
 
 -- with the rows so far the tables are h, and of what is read in all the section is left, with room for so many rows
-module _ {A : Type 0} (key : List ℕ) (row : List A → Reader A) (put : List A → Sheet) where
-  abbrev pub rest : ℕ → List A → Reader Sheet
+module _ {A : Type 0} (key : List ℕ) (row : List A → Reader A) (put : List A → M.Heads) where
+  abbrev pub rest : ℕ → List A → Reader M.Heads
   rest room so = λ l t. after (section key row room so l t) (λ xs. give (put xs))
 
-  pub record Going (limit : ℕ) (s : List ℕ) (x : Got Sheet) (h : Heads) (at : ℕ) : Type 0 where
+  pub record Going (limit : ℕ) (s : List ℕ) (x : Got M.Heads) (h : Heads) (at : ℕ) : Type 0 where
     pub so : List A
     pub is : h ≡ asHeads (put so)
     pub plain : Plain (put so)
@@ -76,7 +76,7 @@ module _ {A : Type 0} (key : List ℕ) (row : List A → Reader A) (put : List A
     pub left : Left x (rest (limit - length so) so) (nextLine (put so)) at s
 
 -- no rows yet
-pub going-start : {A : Type 0} {key : List ℕ} {row : List A → Reader A} {put : List A → Sheet} {limit : ℕ} {Q : Sheet → Type 0} {s : List ℕ} {x y : Got Sheet} {before : HeadsRead}
+pub going-start : {A : Type 0} {key : List ℕ} {row : List A → Reader A} {put : List A → M.Heads} {limit : ℕ} {Q : M.Heads → Type 0} {s : List ℕ} {x y : Got M.Heads} {before : HeadsRead}
     (c : Came Q s x before) → c .sheet ≡ put []
     → y ≡ rest key row put limit [] (nextLine (c .sheet)) (drop (before .at) s) → Going key row put limit s y (before .heads) (before .at)
 going-start c e q =
@@ -84,10 +84,10 @@ going-start c e q =
     let plain = subst Plain e (c .plain) in
     record { so = []; is = is; plain = plain; counts = few-rows _ is plain; left = record { within = c .within; is = q ∙ rw (ap nextLine e, sub-zero) } }
 
-module _ {A : Type 0} {key : List ℕ} {row : List A → Reader A} {put : List A → Sheet} {limit : ℕ} {s : List ℕ} {x : Got Sheet} {h : Heads} {at : ℕ}
+module _ {A : Type 0} {key : List ℕ} {row : List A → Reader A} {put : List A → M.Heads} {limit : ℕ} {s : List ℕ} {x : Got M.Heads} {h : Heads} {at : ℕ}
     (i : Going key row put limit s x h at) where
   -- what is left behind a further row
-  abbrev pub next : A → Reader Sheet
+  abbrev pub next : A → Reader M.Heads
   next a = rest key row put (limit - length (i .so) - 1) (i .so ++ (a ∷ []))
 
   -- a further row that begins: n names stand before its own, which is in the number w
@@ -116,15 +116,15 @@ module _ {A : Type 0} {key : List ℕ} {row : List A → Reader A} {put : List A
       }
 
   -- THE NAME OF A ROW, by what is read behind it
-  module _ (tail : List A → Name → (A → Reader Sheet) → Reader Sheet) where
+  module _ (tail : List A → Name → (A → Reader M.Heads) → Reader M.Heads) where
     -- what the answer on a row's name tells
-    abbrev pub RowTold : (Sheet → Type 0) → ℕ → RowName → Type 0
+    abbrev pub RowTold : (M.Heads → Type 0) → ℕ → RowName → Type 0
     RowTold Q n (R.Left k) = Reads Q s x (told k (2 + n) at h)
     RowTold Q n (R.Name w k) = (b : Begun n w) × Left x (tail (i .so) (b .name) next) (2 + n) (at + k) s
 
     -- rows begin with a new name
-    module _ (rows : (g : A → Reader Sheet) (l : ℕ) (t : List ℕ) → after (row (i .so) l t) g ≡ after (newName (allNames (put (i .so))) l t) (λ w. tail (i .so) w g))
-        (Q : Sheet → Type 0) (behind : Q (put (i .so))) (n : ℕ) (n-is : n ≡ length (allNames (put (i .so)))) where
+    module _ (rows : (g : A → Reader M.Heads) (l : ℕ) (t : List ℕ) → after (row (i .so) l t) g ≡ after (newName (allNames (put (i .so))) l t) (λ w. tail (i .so) w g))
+        (Q : M.Heads → Type 0) (behind : Q (put (i .so))) (n : ℕ) (n-is : n ≡ length (allNames (put (i .so)))) where
       abbrev used : List Name
       used = allNames (put (i .so))
 

@@ -6,7 +6,7 @@ use lib.ListN.{length, drop}
 use Rattle.meaning.specs.Text.{begins}
 use Rattle.meaning.specs.Reading.{Got, got, wrong}
 use Rattle.meaning.specs.Name.{Name, newName}
-use Rattle.meaning.specs.Sheet.{Sheet}
+use Rattle.meaning.specs.Sheet as M
 use Rattle.text.specs.declared.NamePiece.{NamePiece}
 use Rattle.text.specs.declared.NamePiece.the-variants as N
 use Rattle.text.specs.Answers.{asName}
@@ -21,8 +21,8 @@ abbrev pub refusal : ℕ → ℕ → HeadsRead
 refusal n l = record { number = n; line = l; at = 0; heads = blank }
 
 -- the tables, the line come to and the place
-abbrev pub asHeadsRead : List ℕ → Got Sheet → HeadsRead
-asHeadsRead s (got sh l t) = record { number = 0; line = l; at = length s - length t; heads = asHeads sh }
+abbrev pub asHeadsRead : List ℕ → Got M.Heads → HeadsRead
+asHeadsRead s (got hd l t) = record { number = 0; line = l; at = length s - length t; heads = asHeads hd }
 asHeadsRead s (wrong n l) = refusal n l
 
 -- the number of a refused name

@@ -5,29 +5,29 @@ use Rattle.meaning.specs.Refusal.{LINE}
 use Rattle.meaning.specs.Limits.{fieldLimit}
 use Rattle.meaning.specs.Reading.{Reader, _>>=_, _>>_, give, due, lineEnd}
 use Rattle.meaning.specs.Name.{Name, name}
-use Rattle.meaning.specs.Sheet.{Sheet, Event, Status, eventNames}
+use Rattle.meaning.specs.Sheet.{Heads, Event, Status, eventNames}
 use Rattle.meaning.specs.ReadSheet.{section, fieldRow}
 
 -- the sheet with these sections, and no rules
-abbrev pub sheetOf : Name → List Name → List Event → List Status → List Status → Sheet
-sheetOf m fs es ss ms = record { model = m; fields = fs; events = es; stages = ss; miles = ms; rules = [] }
+abbrev pub sheetOf : Name → List Name → List Event → List Status → List Status → Heads
+sheetOf m fs es ss ms = record { model = m; fields = fs; events = es; stages = ss; miles = ms }
 
-abbrev pub withFields : Name → List Name → Sheet
+abbrev pub withFields : Name → List Name → Heads
 withFields m fs = sheetOf m fs [] [] []
 
 -- the names of the sections before the stages
-abbrev pub used : Sheet → List Name
-used sh = sh .fields ++ eventNames (sh .events)
+abbrev pub used : Heads → List Name
+used hd = hd .fields ++ eventNames (hd .events)
 
-unfoldable pub modelPart : Reader Sheet
+unfoldable pub modelPart : Reader Heads
 modelPart = do
   due LINE (text "model=")
   m ← name
   lineEnd LINE
   give (sheetOf m [] [] [] [])
 
-abbrev pub fieldsPart : Reader Sheet
+abbrev pub fieldsPart : Reader Heads
 fieldsPart = do
-  sh ← modelPart
+  hd ← modelPart
   fs ← section (text "field=") fieldRow fieldLimit []
-  give (withFields (sh .model) fs)
+  give (withFields (hd .model) fs)

@@ -1,18 +1,18 @@
 -- What the functions add, in return form: the premises are what is known at a place, the conclusion is what is asked there.
 use Prim.Native.Nat.{ℕ, zero, suc, _+_, _-_, _*_, _/_, _%_, _≤_, _<_}
 use mathlib.Core.Path.{_≡_, refl, sym, _∙_, ap, ap₂, subst}
-use mathlib.Core.Bool.{Bool, true, false, not, cond, _&&_, _||_}
+use mathlib.Core.Bool.{Bool, true, false, cond, _&&_, _||_}
 use mathlib.Core.List.{List, [], _∷_, _++_, map, append-assoc}
 use native.Mathlib.Omega.{arith}
 use native.Mathlib.Numerals.{add-one}
-use native.Mathlib.Decide.{ℕ-discrete, decLt}
+use native.Mathlib.Decide.{ℕ-discrete}
 use lib.Dec.{eqb, ltb}
 use lib.ListN.{length, getD, take, drop, set, replicate, length-set, length-drop, length-map}
 use lib.Seq.{take-all, take-suc, getD-drop, getD-set-same, getD-set-other}
-use borrow.Author.Tests.{eq-eqb, ne-eqb, lt-ltb, le-ltb, le-leb, lt-leb, eqb-true, not-true, not-false}
+use borrow.Author.Tests.{eq-eqb, ne-eqb, lt-ltb, le-ltb, le-leb, lt-leb}
 use Rattle.meaning.specs.Text.{any, isIn, keep, joined}
 use Rattle.meaning.specs.Graph.{Into, edge, orderFor}
-use Rattle.meaning.specs.Dependency.{up, down, both}
+use Rattle.meaning.specs.Tests.{up, down, both}
 use Rattle.theory.specs.Lists.{joined-both, joined-one}
 use Rattle.order.specs.declared.Sorting.{Sorting}
 use Rattle.order.specs.Masks.{has, maskInto, withBit}
@@ -20,13 +20,12 @@ use Rattle.order.specs.Answers.{asSorting}
 use Rattle.order.proofs.Callers.{has-with, edges-none, sort-same}
 use Rattle.trigger.specs.declared.Trigger.{Trigger}
 use Rattle.trigger.specs.declared.Trigger.the-variants.{Always, Event, Rise, Fall}
-use Rattle.rule.specs.declared.Rule.{Rule}
-use Rattle.rules.specs.declared.Rules.{Rules}
-use Rattle.rule.specs.Answers.{nodeOf}
-use Rattle.graph.specs.Edges.{triggerNodes, wordNodes, overNodes, ruleNodes, parentNode, closingNodes, tableInto}
-use Rattle.graph.specs.Added.{toward, rulesInto, Added}
+use Rattle.tests.specs.declared.Test.{Test}
+use Rattle.tests.specs.Table.{rowsFor}
+use Rattle.graph.specs.Edges.{triggerNodes, wordNodes, homeNodes, testNodes, testsInto}
+use Rattle.graph.specs.Added.{toward, Added}
 
--- ADDING: nothing, these edges and then those, and the same edges otherwise said
+-- ADDING: nothing, and these edges and then those
 
 pub append-none : {A : Type 0} (xs : List A) → xs ++ [] ≡ xs
 append-none [] = refl
@@ -49,9 +48,6 @@ module _ (into : Into) (was : List ℕ) where
       or-none : (b : Bool) → b || false ≡ b
       or-none true = refl
       or-none false = refl
-
-  added-as : (is : List ℕ) (like : Into) → Added like was is → ((k : ℕ) → k < 64 → like k ≡ into k) → Added into was is
-  added-as is like a h = record { long = a .long; edges = λ p k b c. a .edges p k b c ∙ ap (λ ps. has (getD was k 0) p || isIn p ps) (h k c) }
 
   added-then : (mid is : List ℕ) (a b : Into) → Added a was mid → Added b mid is → ((k : ℕ) → k < 64 → into k ≡ a k ++ b k) → Added into was is
   added-then mid is a b x y h =
@@ -134,7 +130,7 @@ both-linked y k p q was mid is e g a b = both-toward k (p ∷ []) (q ∷ []) was
 
 pub ruleset coupling = (both-linked)
 
--- THE NODES OF A RULE'S PARTS
+-- THE NODES OF A TEST'S PARTS
 
 module _ (plus : Bool) (x : ℕ) where
   pub node-up : plus ≡ true → x * 2 ≡ cond plus (up x) (down x)
@@ -174,35 +170,19 @@ module _ (was : List ℕ) (k w : ℕ) where
 
 pub ruleset wording = (word-joins, word-compares, word-status)
 
--- a code of a parent or home that is not 0
-over-suc : (c : ℕ) → (c ≡ 0 → ⊥) → overNodes true c ≡ both (c - 1)
-over-suc zero ne = absurd (ne refl)
-over-suc (suc p) ne = let z : p ≡ suc p - 1 = omega arith in ap both z
-
-parent-suc : (c : ℕ) → (c ≡ 0 → ⊥) → parentNode c ≡ down (c - 1) ∷ []
-parent-suc zero ne = absurd (ne refl)
-parent-suc (suc p) ne = let z : p ≡ suc p - 1 = omega arith in ap (λ v. down v ∷ []) z
-
-module _ (was : List ℕ) (k : ℕ) (plus : Bool) (c : ℕ) where
-  pub over-minus : length was ≡ 64 → not plus ≡ true → Added (toward k (overNodes plus c)) was was
-  over-minus l t = none-toward k (overNodes plus c) was l (rw (not-true plus t))
-
-  pub over-none : length was ≡ 64 → not plus ≡ false → c ≡ 0 → Added (toward k (overNodes plus c)) was was
-  over-none l t e = none-toward k (overNodes plus c) was l (rw (not-false plus t, e))
-
-  pub over-some : not plus ≡ false → (c ≡ 0 → ⊥) → (w : ℕ) → w ≡ c → (is : List ℕ) → Added (toward k (both (w - 1))) was is → Added (toward k (overNodes plus c)) was is
-  over-some t ne w e is a = as-toward k (both (w - 1)) (overNodes plus c) was is a (ap (λ v. both (v - 1)) e ∙ sym (rw (not-false plus t) (over-suc c ne)))
-
-pub ruleset covering = (over-minus, over-none, over-some)
+-- a code of a stage that is not 0
+home-suc : (c : ℕ) → (c ≡ 0 → ⊥) → homeNodes c ≡ both (c - 1)
+home-suc zero ne = absurd (ne refl)
+home-suc (suc p) ne = let z : p ≡ suc p - 1 = omega arith in ap both z
 
 module _ (was : List ℕ) (k c : ℕ) where
-  pub parent-none : length was ≡ 64 → c ≡ 0 → Added (toward k (parentNode c)) was was
-  parent-none l e = none-toward k (parentNode c) was l (rw e)
+  pub home-none : length was ≡ 64 → c ≡ 0 → Added (toward k (homeNodes c)) was was
+  home-none l e = none-toward k (homeNodes c) was l (rw e)
 
-  pub parent-some : (c ≡ 0 → ⊥) → (w p : ℕ) → w ≡ c → p ≡ down (w - 1) → (is : List ℕ) → Added (toward k (p ∷ [])) was is → Added (toward k (parentNode c)) was is
-  parent-some ne w p e n is a = as-toward k (p ∷ []) (parentNode c) was is a (ap (λ q. q ∷ []) (n ∙ ap (λ v. down (v - 1)) e) ∙ sym (parent-suc c ne))
+  pub home-some : (c ≡ 0 → ⊥) → (w : ℕ) → w ≡ c → (is : List ℕ) → Added (toward k (both (w - 1))) was is → Added (toward k (homeNodes c)) was is
+  home-some ne w e is a = as-toward k (both (w - 1)) (homeNodes c) was is a (ap (λ v. both (v - 1)) e ∙ sym (home-suc c ne))
 
-pub ruleset parenting = (parent-none, parent-some)
+pub ruleset covering = (home-none, home-some)
 
 -- THE WORDS OF A CONDITION
 
@@ -259,31 +239,20 @@ module _ (words : List ℕ) (from to k : ℕ) (was : List ℕ) where
 
 pub ruleset reading = (reading-start, reading-out, reading-next, reading-end)
 
--- A RULE
+-- A TEST
 
-module _ (words under : List ℕ) (r : Rule) (was : List ℕ) where
-  pub rule-past : length was ≡ 64 → (x : ℕ) → x ≡ r .status → 32 ≤ x → Added (toward (nodeOf r) (ruleNodes words under r)) was was
-  rule-past l x e h =
-      added-none (toward (nodeOf r) (ruleNodes words under r)) was l
-      (λ j g. toward-other (nodeOf r) (ruleNodes words under r) j (λ q. past (r .plus) (omega arith)))
-    where
-      past : (plus : Bool) → cond plus (up (r .status)) (down (r .status)) < 64 → ⊥
-      past true g = omega arith
-      past false g = omega arith
+pub test-added : (words : List ℕ) (t : Test) (was : List ℕ) (k : ℕ) → k ≡ t .node → (one two is : List ℕ) → Added (toward k (triggerNodes (t .trigger))) was one
+    → (a b : ℕ) → a ≡ t .from → b ≡ t .to → Added (toward k (read words a b)) one two → Added (toward k (homeNodes (t .home))) two is → Added (toward (t .node) (testNodes words t)) was is
+unfolding testNodes
+test-added words t was k e one two is g a b f h w o =
+    subst (λ n. Added (toward n (testNodes words t)) was is) e
+    (both-toward k (triggerNodes (t .trigger) ++ read words a b) (homeNodes (t .home)) was two is
+    (both-toward k (triggerNodes (t .trigger)) (read words a b) was one two g w (triggerNodes (t .trigger) ++ read words a b) refl) o (testNodes words t)
+    (sym (ap (λ l. triggerNodes (t .trigger) ++ l ++ homeNodes (t .home)) (ap₂ (read words) f h))))
 
-  pub rule-added : (x k : ℕ) → x ≡ r .status → k ≡ cond (r .plus) (up x) (down x) → (one two is : List ℕ) → Added (toward k (triggerNodes (r .trigger))) was one
-      → (a b : ℕ) → a ≡ r .from → b ≡ r .to → Added (toward k (read words a b)) one two
-      → Added (toward k (overNodes (r .plus) (getD under x 0))) two is → Added (toward (nodeOf r) (ruleNodes words under r)) was is
-  unfolding ruleNodes
-  rule-added x k e g one two is t a b f h w o =
-      subst (λ n. Added (toward n (ruleNodes words under r)) was is) (g ∙ ap (λ v. cond (r .plus) (up v) (down v)) e)
-      (both-toward k (triggerNodes (r .trigger) ++ read words a b) (overNodes (r .plus) (getD under x 0)) was two is
-      (both-toward k (triggerNodes (r .trigger)) (read words a b) was one two t w (triggerNodes (r .trigger) ++ read words a b) refl) o (ruleNodes words under r)
-      (sym (ap₂ (λ l m. triggerNodes (r .trigger) ++ l ++ m) (ap₂ (read words) f h) (ap (λ v. overNodes (r .plus) (getD under v 0)) e))))
+pub ruleset joining = (test-added)
 
-pub ruleset ruling = (rule-past, rule-added)
-
--- ALL RULES
+-- ALL TESTS
 
 -- those kept of two lists, and one row more
 module _ {A B : Type 0} (f : A → List B) (q : A → Bool) where
@@ -305,130 +274,55 @@ module _ {A B : Type 0} (f : A → List B) (q : A → Bool) where
       go true = append-none (f x)
       go false = refl
 
-pub record Adding (words under : List ℕ) (rows : List Rule) (count : ℕ) (was is : List ℕ) (i : ℕ) : Type 0 where
-  pub held : length rows ≡ 128
+pub record Adding (words : List ℕ) (rows : List Test) (count : ℕ) (was is : List ℕ) (i : ℕ) : Type 0 where
+  pub held : length rows ≡ 160
   pub within : i ≤ count
-  pub added : Added (rulesInto words under (take i rows)) was is
+  pub added : Added (testsInto words (take i rows)) was is
 
-module _ (words under : List ℕ) (rows : List Rule) (count : ℕ) (was : List ℕ) where
-  pub adding-start : {B : Type 0} (f : Rule → B) → length (map f rows) ≡ 128 → length was ≡ 64 → Adding words under rows count was was 0
-  unfolding rulesInto joined keep
-  adding-start f h l = record { held = sym (length-map rows f) ∙ h; within = omega arith; added = added-none (rulesInto words under []) was l (λ k g. refl) }
+module _ (words : List ℕ) (rows : List Test) (count : ℕ) (was : List ℕ) where
+  pub adding-start : {B : Type 0} (f : Test → B) → length (map f rows) ≡ 160 → length was ≡ 64 → Adding words rows count was was 0
+  unfolding testsInto rowsFor joined keep
+  adding-start f h l = record { held = sym (length-map rows f) ∙ h; within = omega arith; added = added-none (testsInto words []) was l (λ k g. refl) }
 
-  module _ (is : List ℕ) (i : ℕ) (s : Adding words under rows count was is i) where
+  module _ (is : List ℕ) (i : ℕ) (s : Adding words rows count was is i) where
     pub adding-long : length is ≡ 64
     adding-long = s .added .long
 
-    pub adding-out : i < count → 128 ≤ i → Added (rulesInto words under (take count rows)) was is
+    pub adding-out : i < count → 160 ≤ i → Added (testsInto words (take count rows)) was is
     adding-out h l =
-        let n : length rows ≡ 128 = s .held in
-        subst (λ rs. Added (rulesInto words under rs) was is) (take-all i rows (omega arith) ∙ sym (take-all count rows (omega arith))) (s .added)
+        let n : length rows ≡ 160 = s .held in
+        subst (λ ts. Added (testsInto words ts) was is) (take-all i rows (omega arith) ∙ sym (take-all count rows (omega arith))) (s .added)
 
-    pub adding-end : count ≤ i → Added (rulesInto words under (take count rows)) was is
+    pub adding-end : count ≤ i → Added (testsInto words (take count rows)) was is
     adding-end h =
         let n : i ≤ count = s .within in
         let z : i ≡ count = omega arith in
-        subst (λ m. Added (rulesInto words under (take m rows)) was is) z (s .added)
+        subst (λ m. Added (testsInto words (take m rows)) was is) z (s .added)
 
-    pub adding-next : (d : Rule) (after : List ℕ) → i < count → i < 128 → Added (toward (nodeOf (getD rows i d)) (ruleNodes words under (getD rows i d))) is after
-        → (j : ℕ) → j ≡ i + 1 → Adding words under rows count was after j
-    unfolding rulesInto toward
+    pub adding-next : (d : Test) (after : List ℕ) → i < count → i < 160 → Added (toward (getD rows i d .node) (testNodes words (getD rows i d))) is after
+        → (j : ℕ) → j ≡ i + 1 → Adding words rows count was after j
+    unfolding testsInto rowsFor toward
     adding-next d after h l a j e =
-        let n : length rows ≡ 128 = s .held in
+        let n : length rows ≡ 160 = s .held in
         let more : take j rows ≡ take i rows ++ (getD rows i d ∷ []) = ap (λ m. take m rows) (e ∙ add-one i) ∙ take-suc rows i d (omega arith) in
         record {
           held = n;
           within = omega arith;
-          added = added-then (rulesInto words under (take j rows)) was is after (rulesInto words under (take i rows))
-              (toward (nodeOf (getD rows i d)) (ruleNodes words under (getD rows i d))) (s .added) a
-              (λ k g. ap (λ rs. rulesInto words under rs k) more
-              ∙ keep-both (ruleNodes words under) (λ r. eqb (nodeOf r) k) (take i rows) (getD rows i d ∷ [])
-              ∙ ap (λ l. rulesInto words under (take i rows) k ++ l) (keep-one (ruleNodes words under) (λ r. eqb (nodeOf r) k) (getD rows i d)));
+          added = added-then (testsInto words (take j rows)) was is after (testsInto words (take i rows)) (toward (getD rows i d .node) (testNodes words (getD rows i d))) (s .added) a
+              (λ k g. ap (λ ts. testsInto words ts k) more
+              ∙ keep-both (testNodes words) (λ t. eqb (t .node) k) (take i rows) (getD rows i d ∷ [])
+              ∙ ap (λ l. testsInto words (take i rows) k ++ l) (keep-one (testNodes words) (λ t. eqb (t .node) k) (getD rows i d)));
         }
 
 pub ruleset adding = (adding-start, adding-long, adding-out, adding-next, adding-end)
 
--- THE CLOSINGS
-
-closing-same : (under : List ℕ) (m n k : ℕ) → (k % 2 ≡ 1 → ltb (k / 2) m ≡ ltb (k / 2) n) → closingNodes under m k ≡ closingNodes under n k
-unfolding closingNodes
-closing-same under m n k h = go (eqb (k % 2) 1) refl
-  where
-    go : (b : Bool) → eqb (k % 2) 1 ≡ b → cond (b && ltb (k / 2) m) (parentNode (getD under (k / 2) 0)) [] ≡ cond (b && ltb (k / 2) n) (parentNode (getD under (k / 2) 0)) []
-    go true e = ap (λ t. cond t (parentNode (getD under (k / 2) 0)) []) (h (eqb-true (k % 2) 1 e))
-    go false e = refl
-
-closing-none : (under : List ℕ) (m k : ℕ) → m ≤ k / 2 → closingNodes under m k ≡ []
-unfolding closingNodes
-closing-none under m k h = go (eqb (k % 2) 1)
-  where
-    go : (b : Bool) → cond (b && ltb (k / 2) m) (parentNode (getD under (k / 2) 0)) [] ≡ []
-    go true = rw (le-ltb (k / 2) m h)
-    go false = refl
-
-closing-here : (under : List ℕ) (x k : ℕ) → k ≡ down x → closingNodes under (x + 1) k ≡ parentNode (getD under x 0)
-unfolding closingNodes
-closing-here under x k e =
-    let z : k / 2 ≡ x = omega arith in
-    rw (eq-eqb (k % 2) 1 (omega arith), lt-ltb (k / 2) (x + 1) (omega arith)) (ap (λ y. parentNode (getD under y 0)) z)
-
-closing-more : (under : List ℕ) (x k : ℕ) → closingNodes under (x + 1) k ≡ closingNodes under x k ++ toward (down x) (parentNode (getD under x 0)) k
-closing-more under x k = go (ℕ-discrete k (down x)) (decLt (k / 2) x)
-  where
-    go : Dec (k ≡ down x) → Dec (k / 2 < x) → closingNodes under (x + 1) k ≡ closingNodes under x k ++ toward (down x) (parentNode (getD under x 0)) k
-    go (yes e) d =
-        closing-here under x k e ∙ sym (toward-here (down x) (parentNode (getD under x 0))) ∙ ap (toward (down x) (parentNode (getD under x 0))) (sym e)
-        ∙ ap (λ l. l ++ toward (down x) (parentNode (getD under x 0)) k) (sym (closing-none under x k (omega arith)))
-    go (no ne) (yes h) =
-        closing-same under (x + 1) x k (λ o. lt-ltb (k / 2) (x + 1) (omega arith) ∙ sym (lt-ltb (k / 2) x h))
-        ∙ sym (append-none (closingNodes under x k)) ∙ ap (λ l. closingNodes under x k ++ l) (sym (toward-other (down x) (parentNode (getD under x 0)) k ne))
-    go (no ne) (no h) =
-        closing-same under (x + 1) x k (λ o. le-ltb (k / 2) (x + 1) (omega arith) ∙ sym (le-ltb (k / 2) x (omega arith)))
-        ∙ sym (append-none (closingNodes under x k)) ∙ ap (λ l. closingNodes under x k ++ l) (sym (toward-other (down x) (parentNode (getD under x 0)) k ne))
-
-pub record Closing (under : List ℕ) (stages : ℕ) (was is : List ℕ) (x : ℕ) : Type 0 where
-  pub within : x ≤ stages
-  pub added : Added (closingNodes under x) was is
-
-module _ (under : List ℕ) (stages : ℕ) (was : List ℕ) where
-  pub closing-start : length was ≡ 64 → Closing under stages was was 0
-  closing-start l = record { within = omega arith; added = added-none (closingNodes under 0) was l (λ k h. closing-none under 0 k (omega arith)) }
-
-  module _ (is : List ℕ) (x : ℕ) (s : Closing under stages was is x) where
-    pub closing-long : length is ≡ 64
-    closing-long = s .added .long
-
-    pub closing-out : x < stages → 32 ≤ x → Added (closingNodes under stages) was is
-    closing-out h l =
-        added-as (closingNodes under stages) was is (closingNodes under x) (s .added)
-        (λ k g. closing-same under x stages k (λ o. lt-ltb (k / 2) x (omega arith) ∙ sym (lt-ltb (k / 2) stages (omega arith))))
-
-    pub closing-end : stages ≤ x → Added (closingNodes under stages) was is
-    closing-end h =
-        let n : x ≤ stages = s .within in
-        let z : x ≡ stages = omega arith in
-        subst (λ m. Added (closingNodes under m) was is) z (s .added)
-
-    pub closing-next : x < stages → (k : ℕ) → k ≡ down x → (after : List ℕ) → Added (toward k (parentNode (getD under x 0))) is after → (y : ℕ) → y ≡ x + 1 → Closing under stages was after y
-    closing-next h k n after a y e =
-        record {
-          within = omega arith;
-          added = added-then (closingNodes under y) was is after (closingNodes under x) (toward k (parentNode (getD under x 0))) (s .added) a
-              (λ j g. ap (λ m. closingNodes under m j) e ∙ closing-more under x j ∙ ap (λ m. closingNodes under x j ++ toward m (parentNode (getD under x 0)) j) (sym n));
-        }
-
-pub ruleset closings = (closing-start, closing-long, closing-out, closing-next, closing-end)
-
 -- THE ORDER
 
-pub order-of : (rules : Rules) (words under : List ℕ) (stages statuses : ℕ) (mid is : List ℕ) (r : Sorting) → statuses ≤ 32
-    → Added (rulesInto words under (take (rules .count) (rules .rows))) (replicate 64 0) mid → Added (closingNodes under stages) mid is
-    → r ≡ asSorting (orderFor (statuses * 2) (maskInto is)) → r ≡ asSorting (orderFor (statuses * 2) (tableInto rules words under stages))
-unfolding tableInto rulesInto edge
-order-of rules words under stages statuses mid is r h a b e =
-    let all : Added (tableInto rules words under stages) (replicate 64 0) is =
-    added-then (tableInto rules words under stages) (replicate 64 0) mid is (rulesInto words under (take (rules .count) (rules .rows))) (closingNodes under stages) a b (λ k g. refl) in
-    sort-same is (statuses * 2) (tableInto rules words under stages) r (omega arith)
-    (λ p k c d. all .edges p k (omega arith) (omega arith) ∙ ap (λ t. t || isIn p (tableInto rules words under stages k)) (edges-none 64 p k)) e
+pub order-of : (words : List ℕ) (rows : List Test) (statuses : ℕ) (is : List ℕ) (r : Sorting) → statuses ≤ 32 → Added (testsInto words rows) (replicate 64 0) is
+    → r ≡ asSorting (orderFor (statuses * 2) (maskInto is)) → r ≡ asSorting (orderFor (statuses * 2) (testsInto words rows))
+unfolding edge
+order-of words rows statuses is r h a e =
+    sort-same is (statuses * 2) (testsInto words rows) r (omega arith)
+    (λ p k c d. a .edges p k (omega arith) (omega arith) ∙ ap (λ t. t || isIn p (testsInto words rows k)) (edges-none 64 p k)) e
 
 pub ruleset ordering = (order-of)

@@ -5,20 +5,13 @@ use mathlib.Core.Bool.{cond, _||_}
 use mathlib.Core.List.{List, []}
 use lib.Dec.{eqb}
 use lib.ListN.{length, getD}
-use Rattle.meaning.specs.Text.{isIn, keep, joined}
+use Rattle.meaning.specs.Text.{isIn}
 use Rattle.meaning.specs.Graph.{Into}
 use Rattle.order.specs.Masks.{has}
-use Rattle.rule.specs.declared.Rule.{Rule}
-use Rattle.rule.specs.Answers.{nodeOf}
-use Rattle.graph.specs.Edges.{ruleNodes}
 
 -- the edges from these nodes to one node
 unfoldable pub toward : ℕ → List ℕ → Into
 toward k ps j = cond (eqb k j) ps []
-
--- the edges of rules
-unfoldable pub rulesInto : List ℕ → List ℕ → List Rule → Into
-rulesInto words under rs k = joined (ruleNodes words under) (keep (λ r. eqb (nodeOf r) k) rs)
 
 -- the masks after have the edges of those before and these too, between nodes below 64
 pub record Added (into : Into) (was is : List ℕ) : Type 0 where

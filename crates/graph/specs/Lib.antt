@@ -1,3 +1,3 @@
--- The edges that the tables of a sheet give, and what a function adds to a graph:
+-- The edges that rows of tests give, and what a function adds to a graph:
 pub mod Edges
 pub mod Added

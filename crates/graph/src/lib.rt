@@ -1,4 +1,4 @@
-// The dependency graph of a sheet, and its testing order. The graph is 64 masks: bit p of mask k is the edge from node p to node k.
+// The dependency graph of some tests, and their testing order. The graph is 64 masks: bit p of mask k is the edge from node p to node k.
 ghost use mathlib.Core.Path.{_≡_};
 ghost use mathlib.Core.Bool.{cond};
 ghost use mathlib.Core.List.{[], _∷_};
@@ -6,17 +6,16 @@ ghost use Prim.Native.Nat.{_-_, _*_, _≤_, _<_};
 ghost use lib.ListN.{length, take, drop};
 ghost use Rattle.meaning.specs.Text.{joined};
 ghost use Rattle.meaning.specs.Graph.{orderFor};
-ghost use Rattle.meaning.specs.Dependency.{up, down, both};
+ghost use Rattle.meaning.specs.Tests.{up, down, both};
 ghost use Rattle.order.specs.Answers.{asSorting};
-ghost use Rattle.rule.specs.Answers.{nodeOf};
-ghost use Rattle.graph.specs.Edges.{triggerNodes, wordNodes, overNodes, ruleNodes, parentNode, closingNodes, tableInto};
-ghost use Rattle.graph.specs.Added.{Added, toward, rulesInto};
+ghost use Rattle.graph.specs.Edges.{triggerNodes, wordNodes, homeNodes, testNodes, testsInto};
+ghost use Rattle.graph.specs.Added.{Added, toward};
 use order::Sorting;
-use rule::Rule;
-use rules::Rules;
+use tests::Test;
+use tests::Tests;
 use trigger::Trigger;
 
-// A status as an index. Its bound keeps the numbers of its nodes from overflowing.
+// A status or a node as an index. Its bound keeps the numbers of its nodes from overflowing.
 fn wide(x: u8) -> usize
     ensures { λ r. ⌜ (r ≡ x) × (r < 256) ⌝ }
 {
@@ -103,92 +102,52 @@ fn add_words(masks: &mut [u64; 64], words: &[u64], from: usize, to: usize, k: us
     }
 }
 
-// The edges of a parent or home, for a rule that opens its status.
-fn add_over(masks: &mut [u64; 64], plus: bool, code: u8, k: usize)
+// The edges of a stage that must be yes after, if there is one.
+fn add_home(masks: &mut [u64; 64], home: u8, k: usize)
     requires { ⌜ length (now masks) ≡ 64 ⌝ }
-    ensures { λ r. ⌜ Added (toward k (overNodes plus code)) (now (masks .entry)) (now (masks .exit)) ⌝ }
+    ensures { λ r. ⌜ Added (toward k (homeNodes home)) (now (masks .entry)) (now (masks .exit)) ⌝ }
 {
-    if !plus {
+    if home == 0 {
         return;
     }
-    if code == 0 {
-        return;
-    }
-    link_both(masks, wide(code) - 1, k);
+    link_both(masks, wide(home) - 1, k);
 }
 
-// The edges of a rule. Nodes of a status from 32 on have no room.
-fn add_rule(masks: &mut [u64; 64], words: &[u64], under: &[u8; 32], r: Rule)
+// The edges of a test.
+fn add_test(masks: &mut [u64; 64], words: &[u64], t: Test)
     requires { ⌜ length (now masks) ≡ 64 ⌝ }
-    ensures { λ q. ⌜ Added (toward (nodeOf r) (ruleNodes (now (words .entry)) (now (under .entry)) r)) (now (masks .entry)) (now (masks .exit)) ⌝ }
+    ensures { λ r. ⌜ Added (toward (t .node) (testNodes (now (words .entry)) t)) (now (masks .entry)) (now (masks .exit)) ⌝ }
 {
-    let x = wide(r.status);
-    if 32 <= x {
-        return;
-    }
-    let k = node_of(r.plus, x);
-    let t = r.trigger;
-    add_trigger(masks, t, k);
-    add_words(masks, words, place(r.from), place(r.to), k);
-    add_over(masks, r.plus, under[x], k);
+    let k = wide(t.node);
+    let trigger = t.trigger;
+    add_trigger(masks, trigger, k);
+    add_words(masks, words, place(t.from), place(t.to), k);
+    add_home(masks, t.home, k);
 }
 
-// The edges of all rules.
-fn add_rules(masks: &mut [u64; 64], words: &[u64], under: &[u8; 32], rules: Rules)
+// The edges of all tests.
+fn add_tests(masks: &mut [u64; 64], words: &[u64], tests: Tests)
     requires { ⌜ length (now masks) ≡ 64 ⌝ }
-    ensures { λ q. ⌜ Added (rulesInto (now (words .entry)) (now (under .entry)) (take (rules .count) (rules .rows))) (now (masks .entry)) (now (masks .exit)) ⌝ }
+    ensures { λ r. ⌜ Added (testsInto (now (words .entry)) (take (tests .count) (tests .rows))) (now (masks .entry)) (now (masks .exit)) ⌝ }
 {
-    let count = rules.count;
+    let count = tests.count;
     let mut i = 0;
     while i < count {
-        if 128 <= i {
+        if 160 <= i {
             return;
         }
-        let r = rules.rows[i];
-        add_rule(masks, words, under, r);
+        let t = tests.rows[i];
+        add_test(masks, words, t);
         i += 1;
     }
 }
 
-// The edge to the node k from that of the parent's closing, if there is a parent.
-fn add_closing(masks: &mut [u64; 64], code: u8, k: usize)
-    requires { ⌜ length (now masks) ≡ 64 ⌝ }
-    ensures { λ r. ⌜ Added (toward k (parentNode code)) (now (masks .entry)) (now (masks .exit)) ⌝ }
-{
-    if code == 0 {
-        return;
-    }
-    link(masks, node_of(false, wide(code) - 1), k);
-}
-
-// A stage closes with its parent.
-fn add_closings(masks: &mut [u64; 64], under: &[u8; 32], stages: usize)
-    requires { ⌜ length (now masks) ≡ 64 ⌝ }
-    ensures { λ r. ⌜ Added (closingNodes (now (under .entry)) stages) (now (masks .entry)) (now (masks .exit)) ⌝ }
-{
-    let mut x = 0;
-    while x < stages {
-        if 32 <= x {
-            return;
-        }
-        add_closing(masks, under[x], node_of(false, x));
-        x += 1;
-    }
-}
-
-// The testing order of the rules with the words of their conditions, over so many statuses, of which the first are stages; none where the graph has a cycle.
-pub fn testing_order(
-    rules: Rules,
-    words: &[u64],
-    under: &[u8; 32],
-    stages: usize,
-    statuses: usize,
-) -> Sorting
+// The testing order of the tests with the words of their conditions, over so many statuses; none where the graph has a cycle.
+pub fn testing_order(tests: Tests, words: &[u64], statuses: usize) -> Sorting
     requires { ⌜ statuses ≤ 32 ⌝ }
-    ensures { λ r. ⌜ r ≡ asSorting (orderFor (statuses * 2) (tableInto rules (now (words .entry)) (now (under .entry)) stages)) ⌝ }
+    ensures { λ r. ⌜ r ≡ asSorting (orderFor (statuses * 2) (testsInto (now (words .entry)) (take (tests .count) (tests .rows)))) ⌝ }
 {
     let mut masks = [0u64; 64];
-    add_rules(&mut masks, words, under, rules);
-    add_closings(&mut masks, under, stages);
+    add_tests(&mut masks, words, tests);
     order::sort(&masks, statuses * 2)
 }

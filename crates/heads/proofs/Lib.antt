@@ -3,3 +3,5 @@ pub mod Parent
 pub mod Statuses
 -- All sections together:
 pub mod Whole
+-- No second answer fits:
+pub mod Only

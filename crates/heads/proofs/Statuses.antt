@@ -12,7 +12,8 @@ use mir.Syntax.{w64, w8}
 use Rattle.meaning.specs.Text.{begins}
 use Rattle.meaning.specs.Reading.{Reader, after}
 use Rattle.meaning.specs.Name.{Name, newName}
-use Rattle.meaning.specs.Sheet.{Sheet, Status, statusNames, statuses}
+use Rattle.meaning.specs.Sheet as M
+use Rattle.meaning.specs.Sheet.{Status, statusNames, statuses}
 use Rattle.meaning.specs.ReadSheet.{status, stageRow, mileRow}
 use Rattle.theory.specs.Answered.{Next, answered-wrong, left-on, left-off}
 use Rattle.theory.specs.Fixed.{left-open, left-closed}
@@ -42,7 +43,7 @@ use Rattle.heads.proofs.Parent.{under-built, under-ends, underKind}
 -- WHERE THE SECTION STANDS
 pub record Statuses (s key : List ℕ) (miles : Bool) (mile stage : ℕ) (h : Heads) (at : ℕ) : Type 0 where
   pub fixed : (key ≡ statusKey miles) × (mile ≡ cond miles 1 0) × (stage ≡ cond (not miles) 1 0) × ((stage + mile ≤ 1) × (1 ≤ stage + mile))
-  pub sheet : Sheet
+  pub sheet : M.Heads
   pub going : Going (statusKey miles) (statusRow miles sheet) (withStatuses miles sheet) (statusRoom miles sheet) s (statusesPart miles 1 s) h at
 
 one-of : (b : Bool) (m n : ℕ) → m ≡ cond b 1 0 → n ≡ cond (not b) 1 0 → (n + m ≤ 1) × (1 ≤ n + m)
@@ -55,53 +56,53 @@ statuses-start s key miles mile stage before k m o read z =
     let c = read .came z in record { fixed = (k, m, o, one-of miles mile stage m o); sheet = c .sheet; going = going-start c (c .rest) (rw (c .same)) }
 
 -- STAGES AND MILES ARE READ ALIKE
-behind-is : (miles : Bool) (sh : Sheet) (so : List Status) → Behind miles (withStatuses miles sh so)
-behind-is false sh so = refl
-behind-is true sh so = tt
+behind-is : (miles : Bool) (hd : M.Heads) (so : List Status) → Behind miles (withStatuses miles hd so)
+behind-is false hd so = refl
+behind-is true hd so = tt
 
-room-is : (miles : Bool) (sh : Sheet) (so : List Status) → 32 - (length (withStatuses miles sh so .stages) + length (withStatuses miles sh so .miles)) ≡ statusRoom miles sh - length so
-room-is false sh so = omega arith
-room-is true sh so = omega arith
+room-is : (miles : Bool) (hd : M.Heads) (so : List Status) → 32 - (length (withStatuses miles hd so .stages) + length (withStatuses miles hd so .miles)) ≡ statusRoom miles hd - length so
+room-is false hd so = omega arith
+room-is true hd so = omega arith
 
 -- behind the name
-abbrev tail : Bool → Sheet → List Status → Name → (Status → Reader Sheet) → Reader Sheet
-tail miles sh so w g = λ l t. after (underPiece (statusNames (withStatuses miles sh so .stages)) l t) (λ o. closing (g (record { name = w; under = o })))
+abbrev tail : Bool → M.Heads → List Status → Name → (Status → Reader M.Heads) → Reader M.Heads
+tail miles hd so w g = λ l t. after (underPiece (statusNames (withStatuses miles hd so .stages)) l t) (λ o. closing (g (record { name = w; under = o })))
 
-rows : (miles : Bool) (sh : Sheet) (so : List Status) (g : Status → Reader Sheet) (l : ℕ) (t : List ℕ)
-    → after (statusRow miles sh so l t) g ≡ after (newName (allNames (withStatuses miles sh so)) l t) (λ w l t. tail miles sh so w g l t)
+rows : (miles : Bool) (hd : M.Heads) (so : List Status) (g : Status → Reader M.Heads) (l : ℕ) (t : List ℕ)
+    → after (statusRow miles hd so l t) g ≡ after (newName (allNames (withStatuses miles hd so)) l t) (λ w l t. tail miles hd so w g l t)
 unfolding stageRow mileRow status underPiece allNames statuses statusNames
-rows false sh so g l t = simp (append-nil, after-after)
-rows true sh so g l t = simp (map-append, append-assoc, after-after)
+rows false hd so g l t = simp (append-nil, after-after)
+rows true hd so g l t = simp (map-append, append-assoc, after-after)
 
 -- ONE MORE STATUS
-module _ (sh : Sheet) (so : List Status) (a : Status) where
-  statuses-row : (m : Bool) → statuses (withStatuses m sh (so ++ (a ∷ []))) ≡ statuses (withStatuses m sh so) ++ (a ∷ [])
+module _ (hd : M.Heads) (so : List Status) (a : Status) where
+  statuses-row : (m : Bool) → statuses (withStatuses m hd (so ++ (a ∷ []))) ≡ statuses (withStatuses m hd so) ++ (a ∷ [])
   unfolding statuses
   statuses-row false = simp append-nil
-  statuses-row true = sym (append-assoc (sh .stages) so (a ∷ []))
+  statuses-row true = sym (append-assoc (hd .stages) so (a ∷ []))
 
   -- it counts once, as a stage or as a mile
-  counts-more : (m : Bool) → (length (cond m (sh .stages) (so ++ (a ∷ []))) ≡ length (cond m (sh .stages) so) + cond (not m) 1 0)
+  counts-more : (m : Bool) → (length (cond m (hd .stages) (so ++ (a ∷ []))) ≡ length (cond m (hd .stages) so) + cond (not m) 1 0)
       × (length (cond m (so ++ (a ∷ [])) []) ≡ length (cond m so []) + cond m 1 0)
   counts-more false = (length-append so (a ∷ []), refl)
   counts-more true = (omega arith, length-append so (a ∷ []))
 
-module _ (miles : Bool) (sh : Sheet) (so : List Status) (a : Status) where
-  abbrev before : Sheet
-  before = withStatuses miles sh so
+module _ (miles : Bool) (hd : M.Heads) (so : List Status) (a : Status) where
+  abbrev before : M.Heads
+  before = withStatuses miles hd so
 
-  abbrev more : Sheet
-  more = withStatuses miles sh (so ++ (a ∷ []))
+  abbrev more : M.Heads
+  more = withStatuses miles hd (so ++ (a ∷ []))
 
   names-more : allNames more ≡ allNames before ++ (a .name ∷ [])
   unfolding allNames statusNames
-  names-more = rw (statuses-row sh so a miles, map-append (λ (x : Status). x .name) (statuses before) (a ∷ [])) (sym (append-assoc (used sh) _ _))
+  names-more = rw (statuses-row hd so a miles, map-append (λ (x : Status). x .name) (statuses before) (a ∷ [])) (sym (append-assoc (used hd) _ _))
 
   plain-more : length (before .stages) + length (before .miles) < 32 → Plain before → Again (allNames more) → Plain more
   unfolding statuses
   plain-more h p n =
       let few : length (more .stages) + length (more .miles) ≤ 32
-      = omega (arith, ap length (statuses-row sh so a miles), length-append (statuses before) (a ∷ []), length-append (before .stages) (before .miles), length-append (more .stages) (more .miles)) in
+      = omega (arith, ap length (statuses-row hd so a miles), length-append (statuses before) (a ∷ []), length-append (before .stages) (before .miles), length-append (more .stages) (more .miles)) in
       record { names = n; carried = p .carried; few-fields = p .few-fields; few-events = p .few-events; few-statuses = few }
 
   heads-more : (h : Heads) → h ≡ asHeads before → (u x mile stage : ℕ) → u ≡ underCode (a .under) → x ≡ length (before .stages) + length (before .miles) → x < 32
@@ -111,14 +112,14 @@ module _ (miles : Bool) (sh : Sheet) (so : List Status) (a : Status) where
   heads-more h is u x mile stage under x-is room m o ns e =
       let k : x ≡ length (statuses before) = x-is ∙ sym (length-append (before .stages) (before .miles)) in
       let set-more = mapped-set 32 (λ (s : Status). underCode (s .under)) (statuses before) a (omega arith) in
-      rw (e, is, m, o, under, k, set-more, ← statuses-row sh so a miles, ← counts-more sh so a miles .0, ← counts-more sh so a miles .1)
+      rw (e, is, m, o, under, k, set-more, ← statuses-row hd so a miles, ← counts-more hd so a miles .0, ← counts-more hd so a miles .1)
 
 -- THE WAYS ON
 module _ (s key : List ℕ) (miles : Bool) (mile stage : ℕ) (h : Heads) (at : ℕ) (i : Statuses s key miles mile stage h at) where
   abbrev count : ℕ
   count = h .fields + h .events + (h .stages + h .miles)
 
-  abbrev here : Sheet
+  abbrev here : M.Heads
   here = withStatuses miles (i .sheet) (i .going .so)
 
   module _ (v : List ℕ) (o : RowName) (rest : v ≡ drop at s) (read : o ≡ rowName key (leb 32 (h .stages + h .miles)) (map named (take count (h .names))) v) where
@@ -185,15 +186,15 @@ module _ (s key : List ℕ) (miles : Bool) (mile stage : ℕ) (h : Heads) (at : 
               statuses-more at′ z =
                   let a : Status = record { name = begun .0 .name; under = placed .value } in
                   let x-is : h .stages + h .miles ≡ length (here .stages) + length (here .miles) = omega (arith, counted _ _ (i .going .is)) in
-                  let sh = i .sheet in
+                  let hd = i .sheet in
                   let so = i .going .so in
                   record {
                     fixed = i .fixed;
-                    sheet = sh;
+                    sheet = hd;
                     going =
-                        going-more (i .going) (begun .0) statuses-names a at′ (rw z (left-closed _ (placed .left) (sym feed ∙ not-false c d))) (names-more miles sh so a) _
-                        (heads-more miles sh so a h (i .going .is) u (h .stages + h .miles) mile stage code-is x-is statuses-index (i .fixed .1) (i .fixed .2) _)
-                        (plain-more miles sh so a (omega (arith, x-is, statuses-index)) (i .going .plain));
+                        going-more (i .going) (begun .0) statuses-names a at′ (rw z (left-closed _ (placed .left) (sym feed ∙ not-false c d))) (names-more miles hd so a) _
+                        (heads-more miles hd so a h (i .going .is) u (h .stages + h .miles) mile stage code-is x-is statuses-index (i .fixed .1) (i .fixed .2) _)
+                        (plain-more miles hd so a (omega (arith, x-is, statuses-index)) (i .going .plain));
                   }
 
 pub ruleset statusing = (reads-handed, statuses-start, statuses-left, statuses-room, statuses-index, statuses-names, statuses-less, statuses-wrong, statuses-room-2, statuses-byte, statuses-line, stands-room, statuses-more)

@@ -8,7 +8,7 @@ use Rattle.meaning.specs.Text.{text}
 use Rattle.meaning.specs.Limits.{statusLimit}
 use Rattle.meaning.specs.Reading.{Reader, _>>=_, give, choose, stands}
 use Rattle.meaning.specs.Name.{Name, known}
-use Rattle.meaning.specs.Sheet.{Sheet, Status}
+use Rattle.meaning.specs.Sheet.{Heads, Status}
 use Rattle.meaning.specs.ReadSheet.{section, stageRow, mileRow}
 use Rattle.fields.specs.Parts.{sheetOf, used}
 use Rattle.events.specs.Parts.{eventsPart}
@@ -19,29 +19,29 @@ abbrev pub statusKey : Bool → List ℕ
 statusKey false = text "stage="
 statusKey true = text "mile="
 
-abbrev pub statusRow : Bool → Sheet → List Status → Reader Status
-statusRow false sh = stageRow (used sh)
-statusRow true sh = mileRow (used sh) (sh .stages)
+abbrev pub statusRow : Bool → Heads → List Status → Reader Status
+statusRow false hd = stageRow (used hd)
+statusRow true hd = mileRow (used hd) (hd .stages)
 
-abbrev pub statusRoom : Bool → Sheet → ℕ
-statusRoom false sh = statusLimit
-statusRoom true sh = statusLimit - length (sh .stages)
+abbrev pub statusRoom : Bool → Heads → ℕ
+statusRoom false hd = statusLimit
+statusRoom true hd = statusLimit - length (hd .stages)
 
-abbrev pub withStatuses : Bool → Sheet → List Status → Sheet
-withStatuses miles sh xs = sheetOf (sh .model) (sh .fields) (sh .events) (cond miles (sh .stages) xs) (cond miles xs [])
+abbrev pub withStatuses : Bool → Heads → List Status → Heads
+withStatuses miles hd xs = sheetOf (hd .model) (hd .fields) (hd .events) (cond miles (hd .stages) xs) (cond miles xs [])
 
-abbrev pub statusesOn : Bool → Reader Sheet → Reader Sheet
+abbrev pub statusesOn : Bool → Reader Heads → Reader Heads
 statusesOn miles before = do
-  sh ← before
-  xs ← section (statusKey miles) (statusRow miles sh) (statusRoom miles sh) []
-  give (withStatuses miles sh xs)
+  hd ← before
+  xs ← section (statusKey miles) (statusRow miles hd) (statusRoom miles hd) []
+  give (withStatuses miles hd xs)
 
 -- what is read before the stages, before the miles, and with them
-abbrev pub beforePart : Bool → Reader Sheet
+abbrev pub beforePart : Bool → Reader Heads
 beforePart false = eventsPart
 beforePart true = statusesOn false eventsPart
 
-abbrev pub statusesPart : Bool → Reader Sheet
+abbrev pub statusesPart : Bool → Reader Heads
 statusesPart miles = statusesOn miles (beforePart miles)
 
 -- behind a status's name: a space and one of the stages, or nothing

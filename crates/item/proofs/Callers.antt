@@ -9,7 +9,7 @@ use Rattle.meaning.specs.Reading.{Got, got, wrong, Reader}
 use Rattle.meaning.specs.Condition.{Leaf}
 use Rattle.theory.specs.Answer.{asRead}
 use Rattle.theory.specs.Told.{took}
-use Rattle.theory.specs.Answered.{behind, Ends, bytes, fault, Kind, Found, answered-found, answered-wrong}
+use Rattle.theory.specs.Answered.{behind, Ends, bytes, fault, Kind, answered-found, answered-wrong}
 use Rattle.item.specs.declared.Place.{Place}
 use Rattle.item.specs.declared.CondRead.{CondRead}
 use Rattle.item.specs.declared.CondRead.the-variants.{At, Refused}

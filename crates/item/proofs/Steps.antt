@@ -27,7 +27,7 @@ use Rattle.leaf.proofs.Callers.{leaf-got}
 use Rattle.item.specs.declared.Place.{Place}
 use Rattle.item.specs.declared.CondRead.{CondRead}
 use Rattle.item.specs.declared.CondRead.the-variants.{At, Refused}
-use Rattle.item.specs.Answers.{asItem, itemSpace, cleared, Ready, Within, further, closing, closedBy}
+use Rattle.item.specs.Answers.{asItem, itemSpace, cleared, Ready, Within, further, closedBy}
 
 -- the joining word
 module _ (was : List ℕ) (top : ℕ) (j o : Bool) where

@@ -5,7 +5,7 @@ use mathlib.Core.Bool.{Bool}
 use mathlib.Core.List.{List}
 use native.Mathlib.Omega.{arith}
 use lib.ListN.{length, drop}
-use Rattle.meaning.specs.Reading.{Got, got, wrong}
+use Rattle.meaning.specs.Reading.{got, wrong}
 use Rattle.meaning.specs.Name.{Name}
 use Rattle.meaning.specs.Condition.{Leaf}
 use Rattle.meaning.specs.ReadCondition.{readLeaf}
@@ -25,13 +25,6 @@ pub record Leafed (neg : Bool) (st fd : List Name) (leaves : ℕ) (s : List ℕ)
   pub reads : (l : ℕ) → readLeaf st fd leaves l s ≡ got value l (drop n s)
 
 module _ (neg : Bool) (st fd : List Name) (leaves : ℕ) (s : List ℕ) (r : LeafRead) (is : r ≡ asLeaf neg s (readLeaf st fd leaves 0 s)) where
-  pub leaf-wrong : (k : ℕ) → r ≡ L.Refused k → (l : ℕ) → readLeaf st fd leaves l s ≡ wrong k l
-  leaf-wrong k told l = go (told-leaf st fd leaves s)
-    where
-      go : Told (GoodLeaf st fd leaves) (readLeaf st fd leaves) s → readLeaf st fd leaves l s ≡ wrong k l
-      go (Told.found x n h g e) = let q : r ≡ L.Word (leafWord neg x) (length s - length (drop n s)) = is ∙ rw (e 0) in let z : _≡_ {A = ℕ} 0 1 = cc in absurd (omega arith)
-      go (Told.faulty c e) = let q : r ≡ L.Refused c = is ∙ rw (e 0) in let z : c ≡ k = cc in e l ∙ ap (λ (i : ℕ). wrong i l) z
-
   pub leaf-got : (w n : ℕ) → r ≡ L.Word w n → Leafed neg st fd leaves s w n
   leaf-got w n told = go (told-leaf st fd leaves s)
     where

@@ -13,15 +13,15 @@ use lib.Dec.{ltb}
 use mir.Syntax.{w64}
 use mir.Val.{Fits}
 use Rattle.meaning.specs.Text.{text, begins, find}
-use Rattle.meaning.specs.Reading.{Got, got, wrong, Reader, after, notEnded, stands, oneOf}
+use Rattle.meaning.specs.Reading.{got, wrong, oneOf}
 use Rattle.meaning.specs.Name.{name}
-use Rattle.meaning.specs.Number.{number, Written}
-use Rattle.meaning.specs.Condition.{Operator, below, atMost, equal, atLeast, above, Comparison, Leaf}
+use Rattle.meaning.specs.Number.{number}
+use Rattle.meaning.specs.Condition.{Operator, below, atMost, equal, atLeast, above}
 use Rattle.meaning.specs.ReadCondition.{operator, readLeaf}
 use Rattle.meaning.specs.ReadCondition.{named as namedLeaf}
 use Rattle.theory.specs.BuiltPapers.{operator-built}
 use Rattle.theory.specs.Told.{Told, Any, took, inline-told, notEnded-none, notEnded-some}
-use Rattle.text.specs.Packed.{named, packed}
+use Rattle.text.specs.Packed.{named}
 use Rattle.text.specs.Answers.{asName, foundIn}
 use Rattle.text.specs.declared.NamePiece.{NamePiece}
 use Rattle.text.specs.declared.NamePiece.the-variants as N

@@ -5,8 +5,6 @@ use mathlib.Core.List.{List, [], _∷_, _++_}
 use lib.ListN.{length}
 use Rattle.meaning.specs.Text.{text}
 use Rattle.meaning.specs.Refusal.{Answer, taken, refused}
-use Rattle.meaning.specs.Limits.{sheetBytes}
-use Rattle.meaning.specs.Reading.{paper}
 use Rattle.meaning.specs.Sheet.{leaves}
 use Rattle.meaning.specs.ReadSheet.{sheet}
 use Rattle.meaning.specs.Doors.{Accepted, readSheet}

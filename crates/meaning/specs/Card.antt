@@ -10,7 +10,7 @@ use Rattle.meaning.specs.Limits.{cardBytes, eventBytes}
 use Rattle.meaning.specs.Reading.{Reader, _>>=_, _>>_, give, due, each, Word, oneOf, lineEnd, paperEnd, paper}
 use Rattle.meaning.specs.Name.{Name, dueName, known}
 use Rattle.meaning.specs.Number.{Entry, entry, endLine}
-use Rattle.meaning.specs.Sheet.{Sheet, Status, statusNames, statuses, eventNames}
+use Rattle.meaning.specs.Sheet.{Heads, Status, statusNames, statuses, eventNames}
 
 -- the fields in sheet order; "each stage, then each mile", yes or no
 pub record Card : Type 0 where
@@ -47,12 +47,12 @@ ended r = do
   give a
 
 -- "`case=` and the model's name; each field in sheet order ..; each stage, then each mile ..; `end=N`, N the number of lines between first and last"
-unfoldable pub card : Sheet → Reader Card
-card sh = do
+unfoldable pub card : Heads → Reader Card
+card hd = do
   due LINE (text "case=")
-  ended (dueName (sh .model))
-  es ← each (λ n. ended (fieldEntry n)) (sh .fields)
-  ss ← each (λ n. ended (statusMark n)) (statusNames (statuses sh))
+  ended (dueName (hd .model))
+  es ← each (λ n. ended (fieldEntry n)) (hd .fields)
+  ss ← each (λ n. ended (statusMark n)) (statusNames (statuses hd))
   endLine (length es + length ss)
   give (record { entries = es; statuses = ss })
 
@@ -67,13 +67,13 @@ orphan side x [] = none
 orphan side x (s ∷ ss) = elim (is side x && shut side (s .under)) [ true ↦ some x | false ↦ orphan side (suc x) ss ]
 
 -- ORPHAN, with the "line of the first such stage"; stages stand behind the first line and the fields
-abbrev pub sheltered : Sheet → Card → Option ℕ → Answer Card
-sheltered sh c none = taken c
-sheltered sh c (some x) = refused ORPHAN 2 (2 + length (sh .fields) + x)
+abbrev pub sheltered : Heads → Card → Option ℕ → Answer Card
+sheltered hd c none = taken c
+sheltered hd c (some x) = refused ORPHAN 2 (2 + length (hd .fields) + x)
 
 -- the card as a paper: "LONG, then the first line at fault, then .. ORPHAN"
-unfoldable pub readCard : Sheet → List ℕ → Answer Card
-readCard sh s = onTaken (paper 2 cardBytes (card sh) s) (λ c. sheltered sh c (orphan (c .statuses) 0 (sh .stages)))
+unfoldable pub readCard : Heads → List ℕ → Answer Card
+readCard hd s = onTaken (paper 2 cardBytes (card hd) s) (λ c. sheltered hd c (orphan (c .statuses) 0 (hd .stages)))
 
 -- a field, by its place, and what is put into it
 pub record Put : Type 0 where
@@ -86,25 +86,25 @@ pub record Happening : Type 0 where
   pub puts : List Put
 
 -- the fields that the event at this place carries
-unfoldable pub carriedBy : Sheet → ℕ → List ℕ
-carriedBy sh i = getD (sh .events) i (record { name = []; carries = [] }) .carries
+unfoldable pub carriedBy : Heads → ℕ → List ℕ
+carriedBy hd i = getD (hd .events) i (record { name = []; carries = [] }) .carries
 
 -- "a space and `FIELD=` and a number or `?`"
-unfoldable pub put : Sheet → ℕ → Reader Put
-put sh f = do
+unfoldable pub put : Heads → ℕ → Reader Put
+put hd f = do
   due LINE (text " ")
-  e ← fieldEntry (getD (sh .fields) f [])
+  e ← fieldEntry (getD (hd .fields) f [])
   give (record { field = f; entry = e })
 
 -- "the event's name, then for each field it carries, in the order its `event=` line names them, .., then LF"
-unfoldable pub happening : Sheet → Reader Happening
-happening sh = do
-  i ← known (eventNames (sh .events))
-  ps ← each (put sh) (carriedBy sh i)
+unfoldable pub happening : Heads → Reader Happening
+happening hd = do
+  i ← known (eventNames (hd .events))
+  ps ← each (put hd) (carriedBy hd i)
   lineEnd LINE
   paperEnd
   give (record { event = i; puts = ps })
 
 -- the event line as a paper
-unfoldable pub readEvent : Sheet → List ℕ → Answer Happening
-readEvent sh s = paper 3 eventBytes (happening sh) s
+unfoldable pub readEvent : Heads → List ℕ → Answer Happening
+readEvent hd s = paper 3 eventBytes (happening hd) s

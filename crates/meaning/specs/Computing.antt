@@ -5,17 +5,18 @@ use Rattle.meaning.specs.Name.{goodName, name, newName, dueName, known}
 use Rattle.meaning.specs.Number.{amount, inRange, digits, place, number, entry, endLine, writtenIn, decimal}
 use Rattle.meaning.specs.Condition.{answers, compared, valueL, leavesC, leavesA, leavesI, valueC, valueA, valueI}
 use Rattle.meaning.specs.ReadCondition.{operator, readAnd, readCond, readLeaf, itemWith, readItem, condition}
-use Rattle.meaning.specs.Sheet.{withRules, eventNames, statusNames, statuses, stageOver, leavesOf, leaves}
+use Rattle.meaning.specs.Sheet.{eventNames, statusNames, statuses, stageOver, leavesOf, leaves}
 use Rattle.meaning.specs.ReadSheet.{section, fieldRow, carried, eventRow, status, stageRow, mileRow, trigger, ruleRow, heads, rulesOf, sheet}
 use Rattle.meaning.specs.Card.{fieldEntry, statusMark, ended, card, orphan, readCard, carriedBy, put, happening, readEvent}
 use Rattle.meaning.specs.Graph.{edge, waits, firstFree, without, orderOf, orderFor}
-use Rattle.meaning.specs.Dependency.{nodes, consequent, impliedFrom, allRules, fromTrigger, fromLeaf, fromHome, sources, rulesFor, predecessors, testingOrder}
-use Rattle.meaning.specs.Step.{putIn, moment, allowed, triggered, fulfilled, housed, holds, someHolds, rising, changes, setIf, runOn, leadsTo, childless, startedFrom, started, pattern}
+use Rattle.meaning.specs.Tests.{nodes, testOf, ruleTests, ruleLine, implied, tests, leavesIn}
+use Rattle.meaning.specs.Dependency.{fromTrigger, fromLeaf, fromHome, sources, testsFor, predecessors, testingOrder}
+use Rattle.meaning.specs.Step.{putIn, moment, allowed, needed, triggered, fulfilled, housed, holds, someHolds, rising, changes, setIf, runOn, leadsTo, childless, startedFrom, started, pattern}
 use Rattle.meaning.specs.Outlook.{filledWith, comparisons, cutsAt, isCut, insert, ascending, cuts, parts, many, tried, choices, patterns}
 use Rattle.meaning.specs.Write.{line, lines, cardText}
-use Rattle.meaning.specs.Doors.{readSheet, readCase, next, outlook, fitting, stepAnswer, outlookAnswer, replied, written, stepReply, stepSpace, outlookReply, outlookSpace}
+use Rattle.meaning.specs.Doors.{readSheet, readTold, readCase, next, outlook, fitting, stepAnswer, outlookAnswer, replied, written, stepReply, stepSpace, outlookReply, outlookSpace}
 use Rattle.meaning.specs.Desk.{lineLength, paperLength, firstPaper, afterPaper, refusalText, startLines, outlookLines, printed, deskOutput}
 
 unfoldable pub computing : Unit {0}
-unfolding same begins run find among any keep joined from each notEnded stands due oneOf longest lineEnd paperEnd paper goodName name newName dueName known amount inRange digits place number entry endLine writtenIn decimal answers compared valueL leavesC leavesA leavesI valueC valueA valueI operator readAnd readCond readLeaf itemWith readItem condition withRules eventNames statusNames statuses stageOver leavesOf leaves section fieldRow carried eventRow status stageRow mileRow trigger ruleRow heads rulesOf sheet fieldEntry statusMark ended card orphan readCard carriedBy put happening readEvent nodes consequent impliedFrom allRules fromTrigger fromLeaf fromHome sources rulesFor predecessors edge waits firstFree without orderOf orderFor testingOrder putIn moment allowed triggered fulfilled housed holds someHolds rising changes setIf runOn leadsTo childless startedFrom started pattern filledWith comparisons cutsAt isCut insert ascending cuts parts many tried choices patterns line lines cardText readSheet readCase next outlook fitting stepAnswer outlookAnswer replied written stepReply stepSpace outlookReply outlookSpace lineLength paperLength firstPaper afterPaper refusalText startLines outlookLines printed deskOutput
+unfolding same begins run find among any keep joined from each notEnded stands due oneOf longest lineEnd paperEnd paper goodName name newName dueName known amount inRange digits place number entry endLine writtenIn decimal answers compared valueL leavesC leavesA leavesI valueC valueA valueI operator readAnd readCond readLeaf itemWith readItem condition eventNames statusNames statuses stageOver leavesOf leaves section fieldRow carried eventRow status stageRow mileRow trigger ruleRow heads rulesOf sheet fieldEntry statusMark ended card orphan readCard carriedBy put happening readEvent nodes testOf ruleTests ruleLine implied tests leavesIn fromTrigger fromLeaf fromHome sources testsFor predecessors edge waits firstFree without orderOf orderFor testingOrder putIn moment allowed needed triggered fulfilled housed holds someHolds rising changes setIf runOn leadsTo childless startedFrom started pattern filledWith comparisons cutsAt isCut insert ascending cuts parts many tried choices patterns line lines cardText readSheet readTold readCase next outlook fitting stepAnswer outlookAnswer replied written stepReply stepSpace outlookReply outlookSpace lineLength paperLength firstPaper afterPaper refusalText startLines outlookLines printed deskOutput
 computing = tt

@@ -50,7 +50,7 @@ outlookLines (refused n p l) = line (text "outlook") (text "refused")
 -- "It prints `refused=NUMBER PAPER LINE`, or the next card, a line `start=NAME` for each task, and" the outlook
 unfoldable pub printed : Answer Case → List ℕ
 printed (refused n p l) = refusalText n p l
-printed (taken c) = next c .card ++ startLines (c .sheet .stages) (next c .tasks) ++ outlookLines (outlook c)
+printed (taken c) = next c .card ++ startLines (c .sheet .heads .stages) (next c .tasks) ++ outlookLines (outlook c)
 
 -- "It reads the sheet .., the card .., and takes the rest as the event. .. Over 34,304 bytes: LONG, paper 0, line 0"
 unfoldable pub deskOutput : List ℕ → List ℕ

@@ -8,9 +8,10 @@ use lib.Dec.{leb}
 use Rattle.meaning.specs.Refusal.{Answer, taken, refused, onTaken, _>>=_, CYCLE, ROOM, MANY}
 use Rattle.meaning.specs.Limits.{sheetBytes}
 use Rattle.meaning.specs.Reading.{paper}
-use Rattle.meaning.specs.Sheet.{Sheet}
+use Rattle.meaning.specs.Sheet.{Heads, Sheet}
 use Rattle.meaning.specs.ReadSheet.{sheet}
 use Rattle.meaning.specs.Card.{Card, readCard, Happening, readEvent}
+use Rattle.meaning.specs.Tests.{tests}
 use Rattle.meaning.specs.Dependency.{testingOrder}
 use Rattle.meaning.specs.Step.{moment, putIn, leadsTo, started, pattern}
 use Rattle.meaning.specs.Outlook.{many, patterns}
@@ -30,6 +31,18 @@ accepted sh (some o) = taken (record { sheet = sh; order = o })
 unfoldable pub readSheet : List ℕ → Answer Accepted
 readSheet s = onTaken (paper 1 sheetBytes sheet s) (λ sh. accepted sh (testingOrder sh))
 
+-- card and event line, read under a sheet
+pub record Told : Type 0 where
+  pub card : Card
+  pub happening : Happening
+
+-- "Order: .. card, event"; of the sheet they need only what stands above its rules
+unfoldable pub readTold : Heads → List ℕ → List ℕ → Answer Told
+readTold hd card event = do
+  c ← readCard hd card
+  h ← readEvent hd event
+  taken (record { card = c; happening = h })
+
 -- the three papers, read
 pub record Case : Type 0 where
   pub sheet : Sheet
@@ -41,9 +54,8 @@ pub record Case : Type 0 where
 unfoldable pub readCase : List ℕ → List ℕ → List ℕ → Answer Case
 readCase sheet card event = do
   a ← readSheet sheet
-  c ← readCard (a .sheet) card
-  h ← readEvent (a .sheet) event
-  taken (record { sheet = a .sheet; order = a .order; card = c; happening = h })
+  t ← readTold (a .sheet .heads) card event
+  taken (record { sheet = a .sheet; order = a .order; card = t .card; happening = t .happening })
 
 -- The step: "the next card and the tasks started"; these as statuses, yes or no for each stage
 pub record Next : Type 0 where
@@ -53,17 +65,17 @@ pub record Next : Type 0 where
 -- "a field's value text is that of the event line if the event carries it, otherwise that of the card"
 unfoldable pub next : Case → Next
 next c =
-    let after = leadsTo (c .sheet) (moment (c .card) (c .happening)) (c .order) in
+    let after = leadsTo (tests (c .sheet)) (moment (c .card) (c .happening)) (c .order) in
     record {
-      card = cardText (c .sheet) (putIn (c .happening .puts) (c .card .entries)) after;
-      tasks = started (c .sheet) (c .card .statuses) after;
+      card = cardText (c .sheet .heads) (putIn (c .happening .puts) (c .card .entries)) after;
+      tasks = started (c .sheet .heads .stages) (c .card .statuses) after;
     }
 
 -- The outlook: "the list alone", or MANY
 unfoldable pub outlook : Case → Answer (List ℕ)
 outlook c =
     let m = moment (c .card) (c .happening) in
-    elim (many (c .sheet) m) [ true ↦ refused MANY 0 0 | false ↦ taken (patterns (c .sheet) (c .order) m) ]
+    elim (many (tests (c .sheet)) m) [ true ↦ refused MANY 0 0 | false ↦ taken (patterns (tests (c .sheet)) (c .order) m) ]
 
 -- ROOM: "next card or list longer than the space lent"
 unfoldable pub fitting : {A : Type 0} → (A → List ℕ) → ℕ → A → Answer A

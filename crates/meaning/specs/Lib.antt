@@ -16,6 +16,7 @@ pub mod ReadSheet
 pub mod Card
 -- What is made of them:
 pub mod Graph
+pub mod Tests
 pub mod Dependency
 pub mod Step
 pub mod Outlook

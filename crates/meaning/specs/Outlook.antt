@@ -10,7 +10,7 @@ use Rattle.meaning.specs.Text.{In, any, keep, joined}
 use Rattle.meaning.specs.Limits.{partLimit}
 use Rattle.meaning.specs.Number.{Value, missing, number-at, limit}
 use Rattle.meaning.specs.Condition.{Comparison, Leaf, answers}
-use Rattle.meaning.specs.Sheet.{Sheet, leaves}
+use Rattle.meaning.specs.Tests.{Test, leavesIn}
 use Rattle.meaning.specs.Step.{Moment, Meets, leadsTo, pattern}
 
 -- WHAT IS MEANT
@@ -26,16 +26,16 @@ unfoldable pub filledWith : Moment → List Value → Moment
 filledWith m vs = record { event = m .event; values = vs; before = m .before }
 
 -- some filling has the next pattern p
-pub record Gives (sh : Sheet) (m : Moment) (p : ℕ) : Type 0 where
+pub record Gives (ts : List Test) (m : Moment) (p : ℕ) : Type 0 where
   pub filled : List Value
   pub fills : Fills (m .values) filled
   pub after : List Bool
-  pub meets : Meets sh (filledWith m filled) after
+  pub meets : Meets ts (filledWith m filled) after
   pub is : pattern after ≡ p
 
 -- "The list holds each pattern that some filling gives, once, ascending"
-pub record IsOutlook (sh : Sheet) (m : Moment) (list : List ℕ) : Type 0 where
-  pub each : (p : ℕ) → In p list ↔ Gives sh m p
+pub record IsOutlook (ts : List Test) (m : Moment) (list : List ℕ) : Type 0 where
+  pub each : (p : ℕ) → In p list ↔ Gives ts m p
   pub ascending : (i j : ℕ) → i < j → j < length list → getD list i 0 < getD list j 0
 
 -- a comparison of the field f
@@ -43,17 +43,17 @@ abbrev pub compares : ℕ → Leaf → List Comparison
 compares f (Leaf.status x) = []
 compares f (Leaf.compare c) = cond (eqb (c .field) f) (c ∷ []) []
 
--- the comparisons of a field on the sheet
-unfoldable pub comparisons : Sheet → ℕ → List Comparison
-comparisons sh f = joined (compares f) (leaves (sh .rules))
+-- "some comparison of that field on the sheet": those of the tests
+unfoldable pub comparisons : List Test → ℕ → List Comparison
+comparisons ts f = joined (compares f) (leavesIn ts)
 
 -- a value "at least -999999999 and at most 1000000000, where" the comparison "answers differently at v-1 and v"
 unfoldable pub cutsAt : Comparison → ℕ → Bool
 cutsAt c v = ltb 0 v && leb v limit && not (Bool·beq (answers (c .operator) (c .number) (v - 1)) (answers (c .operator) (c .number) v))
 
 -- "A cut of a field is a value v .. where some comparison of that field on the sheet" does so
-unfoldable pub isCut : Sheet → ℕ → ℕ → Bool
-isCut sh f v = any (λ c. cutsAt c v) (comparisons sh f)
+unfoldable pub isCut : List Test → ℕ → ℕ → Bool
+isCut ts f v = any (λ c. cutsAt c v) (comparisons ts f)
 
 -- HOW IT IS COMPUTED
 
@@ -68,24 +68,24 @@ ascending [] = []
 ascending (x ∷ xs) = insert x (ascending xs)
 
 -- the cuts of a field: a comparison can cut only at its number and at the next
-unfoldable pub cuts : Sheet → ℕ → List ℕ
-cuts sh f = ascending (joined (λ c. keep (cutsAt c) (c .number ∷ suc (c .number) ∷ [])) (comparisons sh f))
+unfoldable pub cuts : List Test → ℕ → List ℕ
+cuts ts f = ascending (joined (λ c. keep (cutsAt c) (c .number ∷ suc (c .number) ∷ [])) (comparisons ts f))
 
 -- "the product of the parts over the `?` fields", from place f on; "A field has one part more than it has cuts"
-unfoldable pub parts : Sheet → ℕ → List Value → ℕ
-parts sh f [] = 1
-parts sh f (missing ∷ vs) = suc (length (cuts sh f)) * parts sh (suc f) vs
-parts sh f (number-at v ∷ vs) = parts sh (suc f) vs
+unfoldable pub parts : List Test → ℕ → List Value → ℕ
+parts ts f [] = 1
+parts ts f (missing ∷ vs) = suc (length (cuts ts f)) * parts ts (suc f) vs
+parts ts f (number-at v ∷ vs) = parts ts (suc f) vs
 
 -- "MANY is given exactly when the product .. exceeds 4,096"
-unfoldable pub many : Sheet → Moment → Bool
-many sh m = ltb partLimit (parts sh 0 (m .values))
+unfoldable pub many : List Test → Moment → Bool
+many ts m = ltb partLimit (parts ts 0 (m .values))
 
 -- the values to be tried in the fields from place f on: of a `?` the lowest of each part, which is -1000000000 or a cut
-unfoldable pub tried : Sheet → ℕ → List Value → List (List Value)
-tried sh f [] = []
-tried sh f (missing ∷ vs) = (number-at 0 ∷ map number-at (cuts sh f)) ∷ tried sh (suc f) vs
-tried sh f (number-at v ∷ vs) = (number-at v ∷ []) ∷ tried sh (suc f) vs
+unfoldable pub tried : List Test → ℕ → List Value → List (List Value)
+tried ts f [] = []
+tried ts f (missing ∷ vs) = (number-at 0 ∷ map number-at (cuts ts f)) ∷ tried ts (suc f) vs
+tried ts f (number-at v ∷ vs) = (number-at v ∷ []) ∷ tried ts (suc f) vs
 
 -- all ways to choose one of each list
 unfoldable pub choices : List (List Value) → List (List Value)
@@ -93,5 +93,5 @@ choices [] = [] ∷ []
 choices (r ∷ rs) = joined (λ v. map (λ w. v ∷ w) (choices rs)) r
 
 -- the patterns, each from a run of the testing order o
-unfoldable pub patterns : Sheet → List ℕ → Moment → List ℕ
-patterns sh o m = ascending (map (λ vs. pattern (leadsTo sh (filledWith m vs) o)) (choices (tried sh 0 (m .values))))
+unfoldable pub patterns : List Test → List ℕ → Moment → List ℕ
+patterns ts o m = ascending (map (λ vs. pattern (leadsTo ts (filledWith m vs) o)) (choices (tried ts 0 (m .values))))

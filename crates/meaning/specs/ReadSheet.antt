@@ -11,7 +11,7 @@ use Rattle.meaning.specs.Reading.{Reader, _>>=_, _>>_, give, refuse, dem
 use Rattle.meaning.specs.Name.{Name, name, newName, known}
 use Rattle.meaning.specs.Number.{endLine}
 use Rattle.meaning.specs.ReadCondition.{condition}
-use Rattle.meaning.specs.Sheet.{Sheet, Event, Status, Sign, plus, minus, Trigger, always, event, rise, fall, Rule, eventNames, statusNames, statuses, withRules, leaves}
+use Rattle.meaning.specs.Sheet.{Heads, Sheet, Event, Status, Sign, plus, minus, Trigger, always, event, rise, fall, Rule, eventNames, statusNames, statuses, leaves}
 
 -- a section: lines that begin with its key, at most `room` more behind the rows `so`; "told as soon as its key is read"
 unfoldable pub section : {A : Type 0} → List ℕ → (List A → Reader A) → ℕ → List A → Reader (List A)
@@ -103,7 +103,7 @@ module _ (fields events statuses : List Name) where
     give rules
 
 -- what stands above the rules, with the limits of its sections; "Stages and miles together: 0 to 32"
-unfoldable pub heads : Reader Sheet
+unfoldable pub heads : Reader Heads
 heads = do
   due LINE (text "model=")
   m ← name
@@ -113,11 +113,11 @@ heads = do
   let used = fields ++ eventNames events
   stages ← section (text "stage=") (stageRow used) statusLimit []
   miles ← section (text "mile=") (mileRow used stages) (statusLimit - length stages) []
-  give (record { model = m; fields = fields; events = events; stages = stages; miles = miles; rules = [] })
+  give (record { model = m; fields = fields; events = events; stages = stages; miles = miles })
 
 -- the whole sheet
 unfoldable pub sheet : Reader Sheet
 sheet = do
-  sh ← heads
-  rules ← rulesOf (sh .fields) (eventNames (sh .events)) (statusNames (statuses sh))
-  give (withRules sh rules)
+  hd ← heads
+  rules ← rulesOf (hd .fields) (eventNames (hd .events)) (statusNames (statuses hd))
+  give (record { heads = hd; rules = rules })

@@ -1,4 +1,4 @@
--- The step: when a rule holds, which after sides meet the rules, what a testing order leads to, and the tasks started.
+-- The step, over any list of tests: when a test holds, which after sides meet the rules, what a testing order leads to, and the tasks started.
 use Prim.Native.Nat.{ℕ, suc, _+_, _*_, _/_, _%_, _<_}
 use mathlib.Core.Path.{_≡_}
 use mathlib.Core.Bool.{Bool, true, false, not, _&&_, cond}
@@ -10,9 +10,10 @@ use Rattle.meaning.specs.Text.{any}
 use Rattle.meaning.specs.Kleene.{known₃, isTrue}
 use Rattle.meaning.specs.Number.{Value, missing, Entry}
 use Rattle.meaning.specs.Condition.{Cond, valueC}
-use Rattle.meaning.specs.Sheet.{Sheet, Status, Sign, plus, minus, Trigger, always, event, rise, fall, Rule, stageOver}
+use Rattle.meaning.specs.Sheet.{Status, Trigger, always, event, rise, fall}
 use Rattle.meaning.specs.Card.{Card, Happening, Put, is}
-use Rattle.meaning.specs.Dependency.{nodes, rulesFor}
+use Rattle.meaning.specs.Tests.{Test}
+use Rattle.meaning.specs.Dependency.{testsFor}
 
 -- what a step starts from: the event, the field values after it, the statuses before it
 pub record Moment : Type 0 where
@@ -39,11 +40,19 @@ rose before after x = not (is before x) && is after x
 abbrev pub fell : List Bool → List Bool → ℕ → Bool
 fell before after x = is before x && not (is after x)
 
-module _ (sh : Sheet) (m : Moment) (after : List Bool) where
-  -- "a `+` rule: its status was no before; a `-` rule: it was yes before"
-  unfoldable pub allowed : Sign → ℕ → Bool
-  allowed plus x = not (is (m .before) x)
-  allowed minus x = is (m .before) x
+-- the node is one of the nodes `+x`
+unfoldable pub rising : ℕ → Bool
+rising k = eqb (k % 2) 0
+
+-- "a `+` rule: its status was no before; a `-` rule: it was yes before"
+unfoldable pub allowed : List Bool → ℕ → Bool
+allowed before k = cond (rising k) (not (is before (k / 2))) (is before (k / 2))
+
+module _ (m : Moment) (after : List Bool) where
+  -- a stage that must have been yes before, if any
+  unfoldable pub needed : Option ℕ → Bool
+  needed none = true
+  needed (some s) = is (m .before) s
 
   -- "its trigger, if any: the event is this one"; a status rose or fell
   unfoldable pub triggered : Trigger → Bool
@@ -52,37 +61,32 @@ module _ (sh : Sheet) (m : Moment) (after : List Bool) where
   triggered (rise y) = rose (m .before) after y
   triggered (fall y) = fell (m .before) after y
 
+  -- "a `+` rule whose status has a parent or home: that stage is yes after"
+  unfoldable pub housed : Option ℕ → Bool
+  housed none = true
+  housed (some p) = is after p
+
   -- "its condition, if any, is true (not unknown)", "read on the after side"
   unfoldable pub fulfilled : Option Cond → Bool
   fulfilled none = true
   fulfilled (some c) = isTrue (valueC (λ x. known₃ (is after x)) (λ f. getD (m .values) f missing) c)
 
-  -- "a `+` rule whose status has a parent or home: that stage is yes after"
-  unfoldable pub housed : Sign → Option ℕ → Bool
-  housed plus none = true
-  housed plus (some p) = is after p
-  housed minus p = true
-
   -- "A rule holds when all of these do"
-  unfoldable pub holds : Rule → Bool
-  holds r = allowed (r .sign) (r .status) && triggered (r .trigger) && fulfilled (r .condition) && housed (r .sign) (stageOver sh (r .status))
+  unfoldable pub holds : Test → Bool
+  holds t = allowed (m .before) (t .node) && needed (t .needs) && triggered (t .trigger) && housed (t .home) && fulfilled (t .condition)
 
-  -- some rule for the change of node k holds, the implied one among them
-  unfoldable pub someHolds : ℕ → Bool
-  someHolds k = any holds (rulesFor sh k)
-
--- the node is one of the nodes `+x`
-unfoldable pub rising : ℕ → Bool
-rising k = eqb (k % 2) 0
+  -- some test of the node k holds
+  unfoldable pub someHolds : List Test → ℕ → Bool
+  someHolds ts k = any holds (testsFor ts k)
 
 -- the change of a node: of `+x` from no to yes, of `-x` from yes to no
 unfoldable pub changes : List Bool → List Bool → ℕ → Bool
 changes before after k = cond (rising k) (rose before after (k / 2)) (fell before after (k / 2))
 
 -- "A status changes exactly when some rule for that change holds"
-pub record Meets (sh : Sheet) (m : Moment) (after : List Bool) : Type 0 where
+pub record Meets (ts : List Test) (m : Moment) (after : List Bool) : Type 0 where
   pub long : length after ≡ length (m .before)
-  pub exactly : (k : ℕ) → k < nodes sh → changes (m .before) after k ≡ someHolds sh m after k
+  pub exactly : (k : ℕ) → k < length (m .before) * 2 → changes (m .before) after k ≡ someHolds m after ts k
 
 -- HOW IT IS COMPUTED: what a list of nodes leads to, on the card half made
 
@@ -97,8 +101,8 @@ runOn test [] half = half
 runOn test (k ∷ o) half = runOn test o (setIf (test half k) k half)
 
 -- "It starts with the before statuses ... What stands at the end is the card it leads to"
-unfoldable pub leadsTo : Sheet → Moment → List ℕ → List Bool
-leadsTo sh m o = runOn (someHolds sh m) o (m .before)
+unfoldable pub leadsTo : List Test → Moment → List ℕ → List Bool
+leadsTo ts m o = runOn (λ half. someHolds m half ts) o (m .before)
 
 -- this is stage x
 abbrev pub within : ℕ → Option ℕ → Bool
@@ -110,13 +114,13 @@ unfoldable pub childless : List Status → ℕ → Bool
 childless ss x = not (any (λ s. within x (s .under)) ss)
 
 -- "Tasks started: stages that have no child stage and turned yes", yes or no for each of the stages from place x on
-unfoldable pub startedFrom : Sheet → List Bool → List Bool → ℕ → List Status → List Bool
-startedFrom sh before after x [] = []
-startedFrom sh before after x (s ∷ ss) = (childless (sh .stages) x && rose before after x) ∷ startedFrom sh before after (suc x) ss
+unfoldable pub startedFrom : List Status → List Bool → List Bool → ℕ → List Status → List Bool
+startedFrom stages before after x [] = []
+startedFrom stages before after x (s ∷ ss) = (childless stages x && rose before after x) ∷ startedFrom stages before after (suc x) ss
 
 -- the tasks, yes or no for each stage
-unfoldable pub started : Sheet → List Bool → List Bool → List Bool
-started sh before after = startedFrom sh before after 0 (sh .stages)
+unfoldable pub started : List Status → List Bool → List Bool → List Bool
+started stages before after = startedFrom stages before after 0 stages
 
 -- "bit i of a 32-bit number is status i, .., from bit 0"
 unfoldable pub pattern : List Bool → ℕ

@@ -11,9 +11,9 @@ use borrow.Author.Tests.{eq-eqb, ne-eqb}
 use lib.Dec.{eqb}
 use lib.ListN.{length, length-map, length-take, length-append, length-set, getD, take, drop, set, replicate, List·getD-map}
 use lib.Seq.{take-at, take-take, take-append-le, getD-take, getD-set-same, getD-set-other, ext-getD}
-use Rattle.meaning.specs.Text.{In, any}
-use Rattle.meaning.specs.Number.{Value, Entry}
-use Rattle.meaning.specs.Sheet.{Sheet, Status, statuses}
+use Rattle.meaning.specs.Text.{any}
+use Rattle.meaning.specs.Number.{Entry}
+use Rattle.meaning.specs.Sheet.{Heads, Status, statuses}
 use Rattle.meaning.specs.Card as M
 use Rattle.meaning.specs.Card.{Put, is}
 use Rattle.meaning.specs.Step.{putIn, moment, rose, within, childless, startedFrom, started, pattern}
@@ -23,9 +23,11 @@ use Rattle.theory.specs.Cards.{PutIn}
 use Rattle.number.specs.Answers.{coded}
 use Rattle.tables.specs.Heads.{padded, underCode}
 use Rattle.tables.proofs.Padded.{padded-at, padded-store, padded-length}
-use Rattle.card.specs.Answers.{markCode, valueCodes}
+use Rattle.card.specs.Answers.{markCode, valueCodes, asCard}
+use Rattle.event.specs.Answers.{asHappening}
+use Rattle.test.specs.Codes.{marked, asMoment}
 use Rattle.card.specs.Parts.{sideOf}
-use Rattle.moment.specs.Tables.{putCodes, markParent, markParents, taskMark, taskMarks}
+use Rattle.moment.specs.Tables.{putCodes, momentOf, markParents, taskMark, taskMarks}
 use Rattle.moment.proofs.Laws.{task-at}
 
 -- THE VALUES
@@ -54,6 +56,14 @@ values-after ps es n fields values codes r h count f v c e =
     e ∙ ap₂ (λ fs vs. putCodes fs vs codes) named v ∙ ap (putCodes (map (λ p. p .field) ps) (valueCodes (map (λ p. p .entry) ps))) c
     ∙ ap (λ vs. putCodes (map (λ p. p .field) ps) (vs ++ replicate (16 - length (map code (map (λ p. p .entry) ps))) 0) (valueCodes es)) (map-map code (λ (p : Put). p .entry) ps)
     ∙ put-codes ps es (replicate (16 - length (map code (map (λ p. p .entry) ps))) 0) h
+
+-- the moment of a card and an event line that were read is the meaning's
+pub moment-is : (hd : Heads) (c : M.Card) (h : M.Happening) → Each (PutIn (length (c .entries))) (h .puts) → momentOf (asCard hd c) (asHappening hd h) ≡ asMoment (moment c h)
+unfolding moment asCard asHappening marked
+moment-is hd c h puts =
+    let e = values-after (h .puts) (c .entries) (length (h .puts)) (padded 16 0 (map (λ (p : Put). p .field) (h .puts))) (valueCodes (map (λ (p : Put). p .entry) (h .puts))) (valueCodes (c .entries)) _ puts refl refl refl refl refl in
+    ap (λ vs. record { event = h .event; values = vs; before = padded 32 0 (map markCode (c .statuses)) })
+    (e ∙ ap (padded 16 0) (sym (map-map coded (λ (e : Entry). e .value) (putIn (h .puts) (c .entries)))))
 
 -- PATTERNS
 
@@ -122,14 +132,14 @@ task-yes p b a = go (eqb p 0) (eqb b 2)
     go true true = refl
     go true false = refl
 
-module _ (sh : Sheet) (before after : List Bool) where
-  started-at : (x i : ℕ) (ss : List Status) → i < length ss → getD (startedFrom sh before after x ss) i false ≡ childless (sh .stages) (x + i) && rose before after (x + i)
+module _ (hd : Heads) (before after : List Bool) where
+  started-at : (x i : ℕ) (ss : List Status) → i < length ss → getD (startedFrom (hd .stages) before after x ss) i false ≡ childless (hd .stages) (x + i) && rose before after (x + i)
   unfolding startedFrom
   started-at x i [] h = absurd (omega arith)
   started-at x zero (s ∷ ss) h = let z : x + 0 ≡ x = omega arith in rw z
   started-at x (suc i) (s ∷ ss) h = let z : x + suc i ≡ suc x + i = omega arith in rw z (started-at (suc x) i ss (omega arith))
 
-  started-long : (x : ℕ) (ss : List Status) → length (startedFrom sh before after x ss) ≡ length ss
+  started-long : (x : ℕ) (ss : List Status) → length (startedFrom (hd .stages) before after x ss) ≡ length ss
   unfolding startedFrom
   started-long x [] = refl
   started-long x (s ∷ ss) = ap suc (started-long (suc x) ss)
@@ -154,9 +164,9 @@ task-long (p ∷ ps) [] cs h g = absurd (omega arith)
 task-long (p ∷ ps) (b ∷ bs) [] h g = absurd (omega arith)
 task-long (p ∷ ps) (b ∷ bs) (c ∷ cs) h g = ap suc (task-long ps bs cs (omega arith) (omega arith))
 
-module _ (sh : Sheet) (few : length (statuses sh) ≤ 32) (before after : List Bool) (lb : length before ≤ 32) (la : length after ≤ 32) where
+module _ (hd : Heads) (few : length (statuses hd) ≤ 32) (before after : List Bool) (lb : length before ≤ 32) (la : length after ≤ 32) where
   abbrev codes : List ℕ
-  codes = map (λ s. underCode (s .under)) (sh .stages)
+  codes = map (λ s. underCode (s .under)) (hd .stages)
 
   abbrev parents : List ℕ
   parents = markParents (replicate 32 0) codes
@@ -164,9 +174,9 @@ module _ (sh : Sheet) (few : length (statuses sh) ≤ 32) (before after : List B
   abbrev marks : List Bool → List ℕ
   marks bs = padded 32 0 (map markCode bs)
 
-  stages-few : length (sh .stages) ≤ 32
+  stages-few : length (hd .stages) ≤ 32
   unfolding statuses
-  stages-few = omega (arith, length-append (sh .stages) (sh .miles))
+  stages-few = omega (arith, length-append (hd .stages) (hd .miles))
 
   marks-long : (bs : List Bool) → length bs ≤ 32 → length (marks bs) ≡ 32
   marks-long bs h = padded-length 32 0 (map markCode bs) (omega (arith, length-map bs markCode))
@@ -175,9 +185,9 @@ module _ (sh : Sheet) (few : length (statuses sh) ≤ 32) (before after : List B
   unfolding padded
   blank x = padded-at {A = ℕ} 32 0 [] x
 
-  tasks-side : sideOf (take (length (sh .stages)) (taskMarks parents (marks before) (marks after))) ≡ started sh before after
+  tasks-side : sideOf (take (length (hd .stages)) (taskMarks parents (marks before) (marks after))) ≡ started (hd .stages) before after
   unfolding started childless sideOf
-  tasks-side = ext-getD false _ _ (long ∙ sym (started-long sh before after 0 (sh .stages))) each
+  tasks-side = ext-getD false _ _ (long ∙ sym (started-long hd before after 0 (hd .stages))) each
     where
       full : length parents ≡ 32
       full = parents-length (replicate 32 0) codes
@@ -185,35 +195,35 @@ module _ (sh : Sheet) (few : length (statuses sh) ≤ 32) (before after : List B
       whole : length (taskMarks parents (marks before) (marks after)) ≡ 32
       whole = task-long parents (marks before) (marks after) (full ∙ sym (marks-long before lb)) (marks-long before lb ∙ sym (marks-long after la)) ∙ full
 
-      long : length (sideOf (take (length (sh .stages)) (taskMarks parents (marks before) (marks after)))) ≡ length (sh .stages)
-      long = length-map (take (length (sh .stages)) (taskMarks parents (marks before) (marks after))) (λ m. eqb m 2) ∙ rw length-take (omega (arith, whole, stages-few))
+      long : length (sideOf (take (length (hd .stages)) (taskMarks parents (marks before) (marks after)))) ≡ length (hd .stages)
+      long = length-map (take (length (hd .stages)) (taskMarks parents (marks before) (marks after))) (λ m. eqb m 2) ∙ rw length-take (omega (arith, whole, stages-few))
 
-      alone : (i : ℕ) → i < length (sh .stages) → eqb (getD parents i 0) 0 ≡ not (any (λ s. within i (s .under)) (sh .stages))
-      alone i h = unmarked (replicate 32 0) codes i (omega (arith, stages-few)) ∙ ap (λ n. eqb n 0 && not (any (λ c. eqb c (suc i)) codes)) (blank i) ∙ ap not (child-same (sh .stages) i)
+      alone : (i : ℕ) → i < length (hd .stages) → eqb (getD parents i 0) 0 ≡ not (any (λ s. within i (s .under)) (hd .stages))
+      alone i h = unmarked (replicate 32 0) codes i (omega (arith, stages-few)) ∙ ap (λ n. eqb n 0 && not (any (λ c. eqb c (suc i)) codes)) (blank i) ∙ ap not (child-same (hd .stages) i)
 
-      each : (i : ℕ) → i < length (sideOf (take (length (sh .stages)) (taskMarks parents (marks before) (marks after)))) → getD (sideOf (take (length (sh .stages)) (taskMarks parents (marks before) (marks after)))) i false ≡ getD (startedFrom sh before after 0 (sh .stages)) i false
+      each : (i : ℕ) → i < length (sideOf (take (length (hd .stages)) (taskMarks parents (marks before) (marks after)))) → getD (sideOf (take (length (hd .stages)) (taskMarks parents (marks before) (marks after)))) i false ≡ getD (startedFrom (hd .stages) before after 0 (hd .stages)) i false
       each i h =
-          let below : i < length (sh .stages) = omega (arith, long) in
+          let below : i < length (hd .stages) = omega (arith, long) in
           let zero-i : 0 + i ≡ i = omega arith in
-          side-at (take (length (sh .stages)) (taskMarks parents (marks before) (marks after))) i (rw length-take (omega (arith, whole, stages-few)))
-          ∙ ap (λ n. eqb n 2) (getD-take (length (sh .stages)) (taskMarks parents (marks before) (marks after)) i 0 below
+          side-at (take (length (hd .stages)) (taskMarks parents (marks before) (marks after))) i (rw length-take (omega (arith, whole, stages-few)))
+          ∙ ap (λ n. eqb n 2) (getD-take (length (hd .stages)) (taskMarks parents (marks before) (marks after)) i 0 below
           ∙ task-at parents (marks before) (marks after) i (omega (arith, full, stages-few)) (omega (arith, marks-long before lb, stages-few)) (omega (arith, marks-long after la, stages-few)) .1)
           ∙ task-yes (getD parents i 0) (getD (marks before) i 0) (getD (marks after) i 0)
           ∙ ap₂ (λ a b. a && b) (alone i below)
           (ap₂ (λ a b. not a && b) (mark-yes before i) (mark-yes after i))
-          ∙ sym (rw zero-i at (started-at sh before after 0 i (sh .stages) below))
+          ∙ sym (rw zero-i at (started-at hd before after 0 i (hd .stages) below))
 
-  codes-taken : take (length (sh .stages)) (padded 32 0 (map (λ s. underCode (s .under)) (statuses sh))) ≡ codes
+  codes-taken : take (length (hd .stages)) (padded 32 0 (map (λ s. underCode (s .under)) (statuses hd))) ≡ codes
   unfolding padded statuses
   codes-taken =
       let code : Status → ℕ = λ s. underCode (s .under) in
-      ap (λ l. take (length (sh .stages)) (l ++ replicate (32 - length (map code (sh .stages ++ sh .miles))) 0)) (map-append code (sh .stages) (sh .miles))
-      ∙ ap (take (length (sh .stages))) (append-assoc (map code (sh .stages)) (map code (sh .miles)) _)
-      ∙ take-at (map code (sh .stages)) _ (length (sh .stages)) (length-map (sh .stages) code)
+      ap (λ l. take (length (hd .stages)) (l ++ replicate (32 - length (map code (hd .stages ++ hd .miles))) 0)) (map-append code (hd .stages) (hd .miles))
+      ∙ ap (take (length (hd .stages))) (append-assoc (map code (hd .stages)) (map code (hd .miles)) _)
+      ∙ take-at (map code (hd .stages)) _ (length (hd .stages)) (length-map (hd .stages) code)
 
   -- of what `tasks_started` answers for the marks before and after
-  pub tasks-are : (under : List ℕ) (n : ℕ) (bm am : List ℕ) (r : ℕ) → under ≡ padded 32 0 (map (λ s. underCode (s .under)) (statuses sh)) → n ≡ length (sh .stages)
+  pub tasks-are : (under : List ℕ) (n : ℕ) (bm am : List ℕ) (r : ℕ) → under ≡ padded 32 0 (map (λ s. underCode (s .under)) (statuses hd)) → n ≡ length (hd .stages)
       → bm ≡ padded 32 0 (map markCode before) → am ≡ padded 32 0 (map markCode after)
-      → r ≡ pattern (sideOf (take n (taskMarks (markParents (replicate 32 0) (take n under)) bm am))) → r ≡ pattern (started sh before after)
+      → r ≡ pattern (sideOf (take n (taskMarks (markParents (replicate 32 0) (take n under)) bm am))) → r ≡ pattern (started (hd .stages) before after)
   tasks-are under n bm am r u k b a e =
       e ∙ rw (u, k, b, a, codes-taken) (ap pattern tasks-side)

@@ -13,7 +13,10 @@ use lib.Seq.{set-out, drop-cons, take-suc, take-suc-set, getD-take}
 use borrow.Author.Tests.{eq-eqb, ne-eqb}
 use Rattle.meaning.specs.Step.{pattern}
 use Rattle.card.specs.Parts.{sideOf}
-use Rattle.moment.specs.Tables.{putCodes, markParent, markParents, taskMark, taskMarks}
+use Rattle.card.specs.declared.Card.{Card}
+use Rattle.event.specs.declared.Happening.{Happening}
+use Rattle.test.specs.declared.Moment.{Moment}
+use Rattle.moment.specs.Tables.{putCodes, momentOf, markParent, markParents, taskMark, taskMarks}
 
 -- what is left of the first n members, from a place before the n-th on
 rest-cons : (n : ℕ) (l : List ℕ) (i : ℕ) → i < n → i < length l → drop i (take n l) ≡ getD l i 0 ∷ drop (suc i) (take n l)
@@ -227,3 +230,8 @@ module _ (parents before after : List ℕ) (stages : ℕ) where
     tasks-done h ps is p e = let z : x ≡ stages = omega (arith, inv .within) in e ∙ ap (λ l. pattern (sideOf l)) (rw z at (inv .same)) ∙ ap (λ q. pattern (sideOf (take stages (taskMarks q before after)))) is
 
 pub ruleset tasking = (task-parent, task-before, task-after, tasks-start, tasks-more, tasks-done)
+
+-- a moment is made of its parts
+pub moment-made : (c : Card) (h : Happening) (v : List ℕ) → v ≡ putCodes (take (h .count) (h .fields)) (h .values) (c .values)
+    → _≡_ {A = Moment} (record { event = h .event; values = v; before = c .marks }) (momentOf c h)
+moment-made c h v e = ap (λ v. record { event = h .event; values = v; before = c .marks }) e

@@ -3,13 +3,20 @@ use Prim.Native.Nat.{ℕ, zero, suc}
 use mathlib.Core.Bool.{Bool, true, false, _||_, not, cond}
 use mathlib.Core.List.{List, [], _∷_}
 use lib.Dec.{eqb}
-use lib.ListN.{set}
+use lib.ListN.{take, set}
+use Rattle.card.specs.declared.Card.{Card}
+use Rattle.event.specs.declared.Happening.{Happening}
+use Rattle.test.specs.declared.Moment.{Moment}
 
 -- "the event's values put in": each at the place of its field
 unfoldable pub putCodes : List ℕ → List ℕ → List ℕ → List ℕ
 putCodes [] vs codes = codes
 putCodes (f ∷ fs) [] codes = codes
 putCodes (f ∷ fs) (v ∷ vs) codes = putCodes fs vs (set codes f v)
+
+-- the moment of a card and an event line: the event, the values after it, the marks before
+abbrev pub momentOf : Card → Happening → Moment
+momentOf c h = record { event = h .event; values = putCodes (take (h .count) (h .fields)) (h .values) (c .values); before = c .marks }
 
 -- the stage of a parent's code (0 for none, otherwise its place and 1 more) is marked
 abbrev pub markParent : List ℕ → ℕ → List ℕ

@@ -1,4 +1,4 @@
-// What goes with a step: the event's values put in, the tasks started, and statuses as a pattern.
+// What goes with a step: the moment of a card and an event line, the tasks started, and statuses as a pattern.
 ghost use mathlib.Core.Path.{_≡_};
 ghost use Prim.Native.Nat.{_≤_};
 ghost use mathlib.Core.Bool.{cond};
@@ -6,8 +6,10 @@ ghost use lib.Dec.{eqb};
 ghost use lib.ListN.{take, set, replicate};
 ghost use Rattle.meaning.specs.Step.{pattern};
 ghost use Rattle.card.specs.Parts.{sideOf};
-ghost use Rattle.moment.specs.Tables.{putCodes, markParent, markParents, taskMark, taskMarks};
+ghost use Rattle.moment.specs.Tables.{putCodes, momentOf, markParent, markParents, taskMark, taskMarks};
+use card::Card;
 use event::Happening;
+use test::Moment;
 
 fn wide(x: u8) -> usize
     ensures { λ r. ⌜ r ≡ x ⌝ }
@@ -28,7 +30,7 @@ fn set_value(values: [u64; 16], f: u8, v: u64) -> [u64; 16]
 }
 
 // The values with those that the event carries put in.
-pub fn put_in(values: [u64; 16], e: Happening) -> [u64; 16]
+fn put_in(values: [u64; 16], e: Happening) -> [u64; 16]
     ensures { λ r. ⌜ r ≡ putCodes (take (e .count) (e .fields)) (e .values) values ⌝ }
 {
     let fields = e.fields;
@@ -47,6 +49,20 @@ pub fn put_in(values: [u64; 16], e: Happening) -> [u64; 16]
         i += 1;
     }
     after
+}
+
+// The moment of a card and an event line: the event, the values after it, and the marks before.
+pub fn moment_of(card: Card, e: Happening) -> Moment
+    ensures { λ r. ⌜ r ≡ momentOf card e ⌝ }
+{
+    let given = card.values;
+    let values = put_in(given, e);
+    let before = card.marks;
+    Moment {
+        event: e.event,
+        values,
+        before,
+    }
 }
 
 // 1 for a status that is yes.

@@ -4,54 +4,36 @@ ghost use Prim.Native.Nat.{_≤_};
 ghost use lib.ListN.{length};
 ghost use Rattle.tables.specs.Heads.{Sized};
 ghost use Rattle.write.specs.Answers.{spaceWith};
-ghost use Rattle.next.specs.Next.{marksWith, textAfter, replyAfter};
+ghost use Rattle.next.specs.Next.{textAfter, replyAfter};
 use accepted::Accepted;
-use case::CaseRead;
-use case::Reply;
-use step::Marks;
+use card::Card;
+use event::Happening;
+use reply::Reply;
 use write::Written;
 
-// The marks after a step: node after node of the testing order.
-fn marks_after(sheet: Accepted, event: usize, values: &[u64; 16], before: [u8; 32]) -> Marks
-    requires { ⌜ Sized (sheet .heads) ⌝ }
-    ensures { λ r. ⌜ r .marks ≡ marksWith sheet event (now (values .entry)) before ⌝ }
+// The step of the card and the event line that were read off these papers: the next card at the start of `out`, and what is returned; ROOM where it does not fit.
+pub fn step_case<'a>(
+    sheet: Accepted,
+    given: Card,
+    happening: Happening,
+    card: &'a [u8],
+    event: &'a [u8],
+    out: &mut [u8],
+) -> Reply
+    requires { ⌜ (Sized (sheet .heads)) × (length (now event) ≤ 512) × (length (now card) ≤ 1024) ⌝ }
+    ensures answer { λ r. ⌜ r ≡ replyAfter sheet given happening (now (card .entry)) (now (event .entry)) (length (now (out .entry))) ⌝ }
+    ensures space { λ r. ⌜ now (out .exit) ≡ spaceWith (now (out .entry)) (textAfter sheet given happening (now (card .entry)) (now (event .entry))) ⌝ }
 {
     let heads = sheet.heads;
     let plan = sheet.plan;
-    let order = sheet.order;
-    let words = sheet.words;
     let under = heads.under;
-    step::run_step(
-        plan,
-        &order,
-        (heads.stages + heads.miles) * 2,
-        &words,
-        &under,
-        heads.stages,
-        event,
-        values,
-        before,
-    )
-}
-
-// The step: the next card at the start of `out`, and what is returned; ROOM where it does not fit.
-pub fn step_case<'a>(read: CaseRead, card: &'a [u8], event: &'a [u8], out: &mut [u8]) -> Reply
-    requires { ⌜ (Sized (read .sheet .heads)) × (length (now event) ≤ 512) × (length (now card) ≤ 1024) ⌝ }
-    ensures answer { λ r. ⌜ r ≡ replyAfter read (now (card .entry)) (now (event .entry)) (length (now (out .entry))) ⌝ }
-    ensures space { λ r. ⌜ now (out .exit) ≡ spaceWith (now (out .entry)) (textAfter read (now (card .entry)) (now (event .entry))) ⌝ }
-{
-    let sheet = read.sheet;
-    let heads = sheet.heads;
-    let under = heads.under;
-    let given = read.card;
     let before = given.marks;
-    let values = read.values;
-    let happening = read.happening;
-    let after = marks_after(sheet, happening.event, &values, before);
+    let moment = moment::moment_of(given, happening);
+    let after = step::run_step(plan, &sheet.words, moment);
     let marks = after.marks;
     let written = write::write_card(out, heads, event, card, happening, given, marks);
     let Written::Bytes(count) = written else {
-        return case::refusal(9, 0, 0);
+        return reply::refusal(reply::ROOM, 0, 0);
     };
     Reply {
         number: 0,

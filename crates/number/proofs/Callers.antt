@@ -69,21 +69,12 @@ pub entry-shows : Shows (λ e. e .shown) Proper entry
 entry-shows = record { inline = entry-built; ensures = entry-proper; spells = entry-spells }
 
 module _ (t : List ℕ) (p : EntryPiece) (is : p ≡ asEntry (entry 0 t)) where
-  pub entry-wrong : (k : ℕ) → p ≡ E.Refused k → (l : ℕ) → entry l t ≡ wrong k l
-  entry-wrong k e = shown-wrong entryKind entry-shows t p is k (ap (entryKind .size) e)
-
   module _ (v n : ℕ) (e : p ≡ E.Entry v n) where
     entered : Found entryKind here (Whole (λ e. e .shown) Proper t) entry t p n
     entered = shown-found entryKind entry-shows t p is n (ap (entryKind .size) e)
 
     value-is : entered .value .value ≡ valueOf v
     value-is = let z = entered .same in let y : coded (entered .value .value) ≡ v = cc in sym (value-coded (entered .value .value)) ∙ ap valueOf y
-
-    pub entry-got : (l : ℕ) → entry l t ≡ got (record { shown = take n t; value = valueOf v }) l (drop n t)
-    entry-got l = entered .reads l ∙ ap₂ (λ s x. got (record { shown = s; value = x }) l (drop n t)) (entered .holds .1) value-is
-
-    pub entry-fits : n ≤ length t
-    entry-fits = entered .within
 
 -- THE LAST LINE, read as line 0: nothing is left behind it, or it is refused at this line or the next
 abbrev Ended : Got (Unit {0}) → Type 0

@@ -1,19 +1,14 @@
 -- No second answer fits: each public function's contract determines what it answers.
-use Prim.Native.Nat.{ℕ}
-use mathlib.Core.Path.{_≡_}
-use mathlib.Core.List.{List}
-use Rattle.meaning.specs.Number.{number, entry, endLine}
-use Rattle.theory.specs.Determined.{only}
-use Rattle.number.specs.declared.NumberPiece.{NumberPiece}
-use Rattle.number.specs.declared.EntryPiece.{EntryPiece}
-use Rattle.number.specs.declared.End.{End}
-use Rattle.number.specs.Answers.{asNumber, asEntry, asEnd}
+use Rattle.theory.specs.Determined.{Determines, only}
+use Rattle.number.proofs.number_piece.Reads as NumberPiece
+use Rattle.number.proofs.entry_piece.Reads as EntryPiece
+use Rattle.number.proofs.end_line.Reads as EndLine
 
-pub number-piece-only : (s : List ℕ) (r q : NumberPiece) → r ≡ asNumber (number 0 s) → q ≡ asNumber (number 0 s) → r ≡ q
-number-piece-only s r q = only
+pub number-piece-only : Determines NumberPiece.Learnt
+number-piece-only κs a r q s t = only
 
-pub entry-piece-only : (s : List ℕ) (r q : EntryPiece) → r ≡ asEntry (entry 0 s) → q ≡ asEntry (entry 0 s) → r ≡ q
-entry-piece-only s r q = only
+pub entry-piece-only : Determines EntryPiece.Learnt
+entry-piece-only κs a r q s t = only
 
-pub end-line-only : (s : List ℕ) (count : ℕ) (r q : End) → r ≡ asEnd (endLine count 0 s) → q ≡ asEnd (endLine count 0 s) → r ≡ q
-end-line-only s count r q = only
+pub end-line-only : Determines EndLine.Learnt
+end-line-only κs a r q s t = only

@@ -33,9 +33,6 @@ has-none = Bits.has-none
 pub has-or : (m k j : ℕ) → has (bitOr m (2 ^ k)) j ≡ has m j || eqb j k
 has-or = Bits.has-or
 
-pub has-shifted : (m k j : ℕ) → k < 64 → has (bitOr m (1 * 2 ^ k % 18446744073709551616)) j ≡ has m j || eqb j k
-has-shifted m k j h = ap (λ x. has (bitOr m x) j) (shifted k h) ∙ has-or m k j
-
 pub has-with : (m k j : ℕ) → has (withBit m k) j ≡ has m j || (eqb j k && ltb k 64)
 has-with = Laws.with-has
 
@@ -54,26 +51,6 @@ edges-none n p k = ap (λ m. has m p) (blank n k) ∙ has-none p
     blank zero k = refl
     blank (suc n) zero = refl
     blank (suc n) (suc k) = blank n k
-
-pub edges-more : (masks : List ℕ) (p k : ℕ) → p < 64 → k < length masks → (q j : ℕ)
-    → has (getD (set masks k (withBit (getD masks k 0) p)) j 0) q ≡ has (getD masks j 0) q || (eqb j k && eqb q p)
-edges-more masks p k h l q j = go (ℕ-discrete j k)
-  where
-    with-room : (a b : Bool) → a || (b && true) ≡ a || (true && b)
-    with-room true b = refl
-    with-room false true = refl
-    with-room false false = refl
-
-    as-before : (a b : Bool) → a ≡ a || (false && b)
-    as-before true b = refl
-    as-before false b = refl
-
-    go : Dec (j ≡ k) → has (getD (set masks k (withBit (getD masks k 0) p)) j 0) q ≡ has (getD masks j 0) q || (eqb j k && eqb q p)
-    go (yes e) =
-        let at : getD (set masks k (withBit (getD masks k 0) p)) k 0 ≡ withBit (getD masks k 0) p = getD-set-same masks k (withBit (getD masks k 0) p) 0 l in
-        rw (e, at, has-with (getD masks k 0) p q, lt-ltb p 64 h, eq-eqb k k refl) (with-room (has (getD masks k 0) q) (eqb q p))
-    go (no ne) =
-        rw (getD-set-other masks k j (withBit (getD masks k 0) p) 0 ne, ne-eqb j k ne) (as-before (has (getD masks j 0) q) (eqb q p))
 
 -- THE EDGES DECIDE: two graphs with the same edges between the nodes below n have the same order
 

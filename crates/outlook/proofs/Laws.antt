@@ -1,24 +1,23 @@
 -- The outlook, return by return: what is known there, and the answer that is asked.
-use Prim.Native.Nat.{ℕ, suc, _+_, _-_, _*_, _≤_, _<_}
+use Prim.Native.Nat.{ℕ, suc, _+_, _-_, _/_, _≤_, _<_}
 use mathlib.Core.Path.{_≡_, refl, sym, _∙_, ap, ap₂, subst}
 use mathlib.Core.Bool.{Bool, true, false, cond}
 use mathlib.Core.List.{List, [], _∷_, _++_, map}
 use native.Mathlib.Omega.{arith}
 use native.Mathlib.Numerals.{add-one}
-use mir.Val.{Fits}
-use mir.Syntax.{w64}
 use borrow.Author.Tests.{lt-ltb, le-ltb, le-leb, lt-leb}
 use lib.Dec.{leb, ltb}
 use lib.ListN.{length, length-map, length-append, getD, take, drop}
 use lib.Seq.{take-at}
 use Rattle.meaning.specs.Text.{from}
+use Rattle.meaning.specs.Refusal.{ROOM, MANY}
 use Rattle.meaning.specs.Step.{pattern}
 use Rattle.meaning.specs.Outlook.{insert, ascending}
 use Rattle.theory.specs.Lists.{from-length}
 use Rattle.theory.specs.Ascending.{Up, ascending-up}
-use Rattle.tables.specs.Heads.{Sized}
 use Rattle.card.specs.Parts.{sideOf}
 use Rattle.plan.specs.declared.Plan.{Plan}
+use Rattle.test.specs.declared.Moment.{Moment}
 use Rattle.step.specs.Run.{runOver}
 use Rattle.sets.specs.Front.{Front}
 use Rattle.sets.proofs.Callers.{front-none, front-take, front-length, front-more, ascending-few, insert-grows}
@@ -26,27 +25,22 @@ use Rattle.combos.specs.Numbered.{split, sum, product, size, choice}
 use Rattle.parts.specs.Tried.{triedFrom, Filled}
 use Rattle.parts.proofs.Callers.{fill-many, fill-few, fill-lists, fill-product, fill-long, fill-room}
 use Rattle.accepted.specs.declared.Accepted.{Accepted}
-use Rattle.case.specs.declared.Reply.{Reply}
-use Rattle.case.specs.Answers.{refusedReply}
-use Rattle.outlook.specs.Patterns.{Fixed, patternAt, fixedOf, triedOf, listOf, asListed, listSpace, replyFor, spaceFor, Ready}
+use Rattle.reply.specs.declared.Reply.{Reply}
+use Rattle.reply.specs.Answers.{refusedReply}
+use Rattle.outlook.specs.Patterns.{Fixed, patternOf, patternAt, triedOf, listOf, asListed, listSpace, replyFor, spaceFor, Ready}
 use Rattle.outlook.specs.declared.Listed.{Listed}
 use Rattle.outlook.specs.declared.Listed.the-variants.{Patterns, Many}
 
 -- ONE CHOICE
 
-pub nodes-fit : (n : ℕ) → n ≤ 32 → Fits w64 (n * 2)
-nodes-fit n h = omega arith
+pub half-few : (n : ℕ) → n ≤ 64 → n / 2 ≤ 32
+half-few n h = omega arith
 
-pub nodes-few : (n : ℕ) → n ≤ 32 → n * 2 ≤ 64
-nodes-few n h = omega arith
+pub pattern-is : (words : List ℕ) (p : Plan) (m : Moment) (marks : List ℕ) → marks ≡ runOver words m p → (r : ℕ) → r ≡ pattern (sideOf (take (p .nodes / 2) marks)) → r ≡ patternOf words p m
+unfolding patternOf
+pattern-is words p m marks is r e = e ∙ ap (λ marks. pattern (sideOf (take (p .nodes / 2) marks))) is
 
-pub pattern-is : (x : Fixed) (values : List ℕ) (n : ℕ) → n ≡ x .statuses * 2 → (marks : List ℕ)
-    → marks ≡ runOver (record { words = x .words; under = x .under; stages = x .stages; event = x .event; values = values; before = x .before }) (x .plan) (take n (x .order))
-    → (r : ℕ) → r ≡ pattern (sideOf (take (x .statuses) marks)) → r ≡ patternAt x values
-unfolding patternAt
-pattern-is x values n z marks m r e = e ∙ ap (λ marks. pattern (sideOf (take (x .statuses) marks))) (m ∙ ap (λ n. runOver (record { words = x .words; under = x .under; stages = x .stages; event = x .event; values = values; before = x .before }) (x .plan) (take n (x .order))) z)
-
-pub ruleset choosing = (nodes-fit, nodes-few, pattern-is)
+pub ruleset choosing = (half-few, pattern-is)
 
 -- ALL CHOICES
 
@@ -111,133 +105,126 @@ pub ruleset collecting = (collect-start, collect-done, collect-below, collect-ro
 
 -- THE LIST
 
-module _ (a : Accepted) (event : ℕ) (values before : List ℕ) (ready : Ready a values) where
-  pub list-sum : Fits w64 (a .heads .stages + a .heads .miles)
-  list-sum = omega (arith, ready .sized .few-statuses)
-
-  pub list-statuses : (n : ℕ) → n ≡ a .heads .stages + a .heads .miles → n ≤ 32
-  list-statuses n e = omega (arith, ready .sized .few-statuses)
-
+module _ (a : Accepted) (m : Moment) (ready : Ready a m) where
   pub list-words : (ws : List ℕ) → length ws ≡ 1024 → a .top ≤ length ws
   list-words ws l = omega (arith, ready .few-words)
 
   pub list-top : a .top ≤ 1024
   list-top = ready .few-words
 
-  pub list-values : (f : ℕ) → f < 16 → getD values f 0 < 4294967296
+  pub list-values : (f : ℕ) → f < 16 → getD (m .values) f 0 < 4294967296
   list-values = ready .few-values
 
   abbrev lists : List (List ℕ)
-  lists = triedFrom (take (a .top) (a .words)) (a .heads .fields) 0 values
+  lists = triedFrom (take (a .top) (a .words)) (a .heads .fields) 0 (m .values)
 
-  module _ {count : ℕ} {flat-was flat lens-was lens : List ℕ} (v16 : length values ≡ 16) (l16 : length lens-was ≡ 16)
-      (filled : Filled (triedFrom (take (a .top) (a .words)) (a .heads .fields) 0 values) count flat-was flat lens-was lens) where
+  module _ {count : ℕ} {flat-was flat lens-was lens : List ℕ} (v16 : length (m .values) ≡ 16) (l16 : length lens-was ≡ 16)
+      (filled : Filled (triedFrom (take (a .top) (a .words)) (a .heads .fields) 0 (m .values)) count flat-was flat lens-was lens) where
     -- too many
     module _ (none : count ≡ 0) where
-      exceeds : ltb 4096 (size (triedOf a event values before)) ≡ true
+      exceeds : ltb 4096 (size (triedOf a m)) ≡ true
       unfolding triedOf
-      exceeds = lt-ltb 4096 (size lists) (fill-many (take (a .top) (a .words)) (a .heads .fields) values count flat-was flat lens-was lens v16 l16 filled none)
+      exceeds = lt-ltb 4096 (size lists) (fill-many (take (a .top) (a .words)) (a .heads .fields) (m .values) count flat-was flat lens-was lens v16 l16 filled none)
 
-      pub list-many : Many ≡ asListed a event values before
+      pub list-many : Many ≡ asListed a m
       unfolding asListed
       list-many = sym (rw exceeds)
 
-      pub list-untouched : (was : List ℕ) → was ≡ listSpace a event values before was
+      pub list-untouched : (was : List ℕ) → was ≡ listSpace a m was
       unfolding listSpace
       list-untouched was = sym (rw exceeds)
 
     -- what a choice is taken from
     module _ (some : count ≡ 0 → ⊥) where
       few : (count ≡ size lists) × (size lists ≤ 4096)
-      few = fill-few (take (a .top) (a .words)) (a .heads .fields) values count flat-was flat lens-was lens v16 l16 filled some
+      few = fill-few (take (a .top) (a .words)) (a .heads .fields) (m .values) count flat-was flat lens-was lens v16 l16 filled some
 
-      pub list-asks : (n : ℕ) → n ≡ a .heads .stages + a .heads .miles → (ps : List ℕ) → length ps ≡ 4096
-          → (n ≤ 32) × (count ≤ length ps) × (count ≡ product lens) × (length lens ≡ 16) × (sum lens ≤ length flat)
-      list-asks n e ps l = (
-        list-statuses n e,
+      pub list-asks : (ps : List ℕ) → length ps ≡ 4096
+          → (a .plan .nodes ≤ 64) × (count ≤ length ps) × (count ≡ product lens) × (length lens ≡ 16) × (sum lens ≤ length flat)
+      list-asks ps l = (
+        ready .few-nodes,
         omega (arith, few .0, few .1),
-        fill-product (take (a .top) (a .words)) (a .heads .fields) values count flat-was flat lens-was lens v16 l16 filled some,
-        fill-long (take (a .top) (a .words)) (a .heads .fields) values count flat-was flat lens-was lens v16 l16 filled some,
-        fill-room (take (a .top) (a .words)) (a .heads .fields) values count flat-was flat lens-was lens v16 l16 filled some,
+        fill-product (take (a .top) (a .words)) (a .heads .fields) (m .values) count flat-was flat lens-was lens v16 l16 filled some,
+        fill-long (take (a .top) (a .words)) (a .heads .fields) (m .values) count flat-was flat lens-was lens v16 l16 filled some,
+        fill-room (take (a .top) (a .words)) (a .heads .fields) (m .values) count flat-was flat lens-was lens v16 l16 filled some,
       )
 
-      within : ltb 4096 (size (triedOf a event values before)) ≡ false
+      within : ltb 4096 (size (triedOf a m)) ≡ false
       unfolding triedOf
       within = le-ltb 4096 (size lists) (few .1)
 
-      module _ {n statuses : ℕ} (sum-is : statuses ≡ a .heads .stages + a .heads .miles) {was now : List ℕ}
-          (front : Front (ascending (map (λ (x : ℕ). patternAt (record { plan = a .plan; order = a .order; words = a .words; under = a .heads .under; stages = a .heads .stages; statuses = statuses; event = event; before = before }) (choice (split lens flat) x)) (from 0 count))) n was now) where
-        list-is : Front (listOf a event values before) n was now
+      module _ {n : ℕ} {was now : List ℕ} (front : Front (ascending (map (λ (x : ℕ). patternAt (record { plan = a .plan; words = a .words; event = m .event; before = m .before }) (choice (split lens flat) x)) (from 0 count))) n was now) where
+        list-is : Front (listOf a m) n was now
         unfolding listOf triedOf
         list-is =
-            let rs = fill-lists (take (a .top) (a .words)) (a .heads .fields) values count flat-was flat lens-was lens v16 l16 filled some in
-            subst (λ l. Front l n was now) (rw (sum-is, rs, few .0)) front
+            let rs = fill-lists (take (a .top) (a .words)) (a .heads .fields) (m .values) count flat-was flat lens-was lens v16 l16 filled some in
+            subst (λ l. Front l n was now) (rw (rs, few .0)) front
 
-        pub list-all : Patterns n ≡ asListed a event values before
+        pub list-all : Patterns n ≡ asListed a m
         unfolding asListed
         list-all = rw (within, list-is .count)
 
-        pub list-space : now ≡ listSpace a event values before was
+        pub list-space : now ≡ listSpace a m was
         unfolding listSpace
-        list-space = list-is .list ∙ ap (λ k. listOf a event values before ++ drop k was) (list-is .count) ∙ sym (rw within)
+        list-space = list-is .list ∙ ap (λ k. listOf a m ++ drop k was) (list-is .count) ∙ sym (rw within)
 
-pub ruleset filling = (list-sum, list-statuses, list-words, list-top, list-values)
+pub ruleset filling = (list-words, list-top, list-values)
 
 -- THE ANSWER
 
-module _ (a : Accepted) (event : ℕ) (values before : List ℕ) (l : Listed) (told : l ≡ asListed a event values before) where
-  exceeds-told : l ≡ Many → ltb 4096 (size (triedOf a event values before)) ≡ true
+module _ (a : Accepted) (m : Moment) (l : Listed) (told : l ≡ asListed a m) where
+  exceeds-told : l ≡ Many → ltb 4096 (size (triedOf a m)) ≡ true
   unfolding asListed
-  exceeds-told z = go (ltb 4096 (size (triedOf a event values before))) refl
+  exceeds-told z = go (ltb 4096 (size (triedOf a m))) refl
     where
-      go : (b : Bool) → ltb 4096 (size (triedOf a event values before)) ≡ b → ltb 4096 (size (triedOf a event values before)) ≡ true
+      go : (b : Bool) → ltb 4096 (size (triedOf a m)) ≡ b → ltb 4096 (size (triedOf a m)) ≡ true
       go true e = e
-      go false e = let y : Many ≡ Patterns (length (listOf a event values before)) = sym z ∙ told ∙ rw e in let n : _≡_ {A = ℕ} 0 1 = cc in absurd (omega arith)
+      go false e = let y : Many ≡ Patterns (length (listOf a m)) = sym z ∙ told ∙ rw e in let n : _≡_ {A = ℕ} 0 1 = cc in absurd (omega arith)
 
-  within-told : (n : ℕ) → l ≡ Patterns n → (ltb 4096 (size (triedOf a event values before)) ≡ false) × (n ≡ length (listOf a event values before))
+  within-told : (n : ℕ) → l ≡ Patterns n → (ltb 4096 (size (triedOf a m)) ≡ false) × (n ≡ length (listOf a m))
   unfolding asListed
-  within-told n z = go (ltb 4096 (size (triedOf a event values before))) refl
+  within-told n z = go (ltb 4096 (size (triedOf a m))) refl
     where
-      go : (b : Bool) → ltb 4096 (size (triedOf a event values before)) ≡ b → (ltb 4096 (size (triedOf a event values before)) ≡ false) × (n ≡ length (listOf a event values before))
+      go : (b : Bool) → ltb 4096 (size (triedOf a m)) ≡ b → (ltb 4096 (size (triedOf a m)) ≡ false) × (n ≡ length (listOf a m))
       go true e = let y : Patterns n ≡ Many = sym z ∙ told ∙ rw e in let n : _≡_ {A = ℕ} 0 1 = cc in absurd (omega arith)
-      go false e = let y : Patterns n ≡ Patterns (length (listOf a event values before)) = sym z ∙ told ∙ rw e in let m : n ≡ length (listOf a event values before) = cc in (e, m)
+      go false e = let y : Patterns n ≡ Patterns (length (listOf a m)) = sym z ∙ told ∙ rw e in let m : n ≡ length (listOf a m) = cc in (e, m)
 
   module _ (z : l ≡ Many) (lent : List ℕ) where
-    pub outlook-many : (r : Reply) → r ≡ refusedReply 10 0 0 → r ≡ replyFor a event values before (length lent)
+    pub outlook-many : (r : Reply) → r ≡ refusedReply MANY 0 0 → r ≡ replyFor a m (length lent)
     unfolding replyFor
     outlook-many r e = e ∙ sym (rw (exceeds-told z))
 
-    pub outlook-many-space : lent ≡ spaceFor a event values before lent
+    pub outlook-many-space : lent ≡ spaceFor a m lent
     unfolding spaceFor
     outlook-many-space = sym (rw (exceeds-told z))
 
   module _ (n : ℕ) (z : l ≡ Patterns n) (lent : List ℕ) where
-    pub outlook-room : length lent < n → (r : Reply) → r ≡ refusedReply 9 0 0 → r ≡ replyFor a event values before (length lent)
+    pub outlook-room : length lent < n → (r : Reply) → r ≡ refusedReply ROOM 0 0 → r ≡ replyFor a m (length lent)
     unfolding replyFor
-    outlook-room h r e = e ∙ sym (rw (within-told n z .0, lt-leb (length (listOf a event values before)) (length lent) (omega (arith, within-told n z .1))))
+    outlook-room h r e = e ∙ sym (rw (within-told n z .0, lt-leb (length (listOf a m)) (length lent) (omega (arith, within-told n z .1))))
 
-    pub outlook-room-space : length lent < n → lent ≡ spaceFor a event values before lent
+    pub outlook-room-space : length lent < n → lent ≡ spaceFor a m lent
     unfolding spaceFor
-    outlook-room-space h = sym (rw (within-told n z .0, lt-leb (length (listOf a event values before)) (length lent) (omega (arith, within-told n z .1))))
+    outlook-room-space h = sym (rw (within-told n z .0, lt-leb (length (listOf a m)) (length lent) (omega (arith, within-told n z .1))))
 
-    module _ (was ps : List ℕ) (space : ps ≡ listSpace a event values before was) where
-      ps-are : ps ≡ listOf a event values before ++ drop (length (listOf a event values before)) was
+    module _ (was ps : List ℕ) (space : ps ≡ listSpace a m was) where
+      ps-are : ps ≡ listOf a m ++ drop (length (listOf a m)) was
       unfolding listSpace
       ps-are = space ∙ rw (within-told n z .0)
 
       pub outlook-fits : n ≤ length ps
-      outlook-fits = omega (arith, within-told n z .1, ap length ps-are, length-append (listOf a event values before) (drop (length (listOf a event values before)) was))
+      outlook-fits = omega (arith, within-told n z .1, ap length ps-are, length-append (listOf a m) (drop (length (listOf a m)) was))
 
       module _ (h : n ≤ length lent) where
-        pub outlook-reply : _≡_ {A = Reply} (record { number = 0; paper = 0; line = 0; count = n; tasks = 0 }) (replyFor a event values before (length lent))
+        pub outlook-reply : _≡_ {A = Reply} (record { number = 0; paper = 0; line = 0; count = n; tasks = 0 }) (replyFor a m (length lent))
         unfolding replyFor
-        outlook-reply = rw (within-told n z .1) (sym (rw (within-told n z .0, le-leb (length (listOf a event values before)) (length lent) (omega (arith, within-told n z .1)))))
+        outlook-reply = rw (within-told n z .1) (sym (rw (within-told n z .0, le-leb (length (listOf a m)) (length lent) (omega (arith, within-told n z .1)))))
 
-        pub outlook-space : (now : List ℕ) → now ≡ take n ps ++ drop n lent → now ≡ spaceFor a event values before lent
+        pub outlook-space : (now : List ℕ) → now ≡ take n ps ++ drop n lent → now ≡ spaceFor a m lent
         unfolding spaceFor
         outlook-space now e =
-            let list : take n ps ≡ listOf a event values before = ap (take n) ps-are ∙ take-at (listOf a event values before) (drop (length (listOf a event values before)) was) n (sym (within-told n z .1)) in
+            let list : take n ps ≡ listOf a m = ap (take n) ps-are ∙ take-at (listOf a m) (drop (length (listOf a m)) was) n (sym (within-told n z .1)) in
             e ∙ ap₂ (λ l k. l ++ drop k lent) list (within-told n z .1)
-            ∙ sym (rw (within-told n z .0, le-leb (length (listOf a event values before)) (length lent) (omega (arith, within-told n z .1))))
+            ∙ sym (rw (within-told n z .0, le-leb (length (listOf a m)) (length lent) (omega (arith, within-told n z .1))))
 
 pub ruleset answering = (outlook-many, outlook-many-space, outlook-room, outlook-room-space, outlook-fits, outlook-reply, outlook-space)

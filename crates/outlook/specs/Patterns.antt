@@ -1,62 +1,51 @@
 -- The outlook of a case that was read, on its tables: the pattern of a choice, the list of all, and what is returned.
-use Prim.Native.Nat.{ℕ, _+_, _*_, _≤_, _<_}
+use Prim.Native.Nat.{ℕ, _/_, _≤_, _<_}
 use mathlib.Core.Path.{_≡_}
 use mathlib.Core.Bool.{Bool, true, false, cond}
 use mathlib.Core.List.{List, _++_, map}
 use lib.Dec.{leb, ltb}
 use lib.ListN.{length, getD, take, drop}
 use Rattle.meaning.specs.Text.{from}
+use Rattle.meaning.specs.Refusal.{ROOM, MANY}
 use Rattle.meaning.specs.Limits.{partLimit}
 use Rattle.meaning.specs.Step.{pattern}
 use Rattle.meaning.specs.Outlook.{ascending}
 use Rattle.tables.specs.Heads.{Sized}
 use Rattle.card.specs.Parts.{sideOf}
 use Rattle.plan.specs.declared.Plan.{Plan}
+use Rattle.test.specs.declared.Moment.{Moment}
 use Rattle.step.specs.Run.{runOver}
 use Rattle.combos.specs.Numbered.{size, choice}
 use Rattle.parts.specs.Tried.{triedFrom}
 use Rattle.accepted.specs.declared.Accepted.{Accepted}
-use Rattle.case.specs.declared.Reply.{Reply}
-use Rattle.case.specs.Answers.{refusedReply}
+use Rattle.reply.specs.declared.Reply.{Reply}
+use Rattle.reply.specs.Answers.{refusedReply}
 use Rattle.outlook.specs.declared.Listed.{Listed}
 use Rattle.outlook.specs.declared.Listed.the-variants.{Patterns, Many}
+
+-- the pattern of the step at a moment; two nodes for each status
+unfoldable pub patternOf : List ℕ → Plan → Moment → ℕ
+patternOf words p m = pattern (sideOf (take (p .nodes / 2) (runOver words m p)))
 
 -- what stays the same for all choices
 pub record Fixed : Type 0 where
   pub plan : Plan
-  pub order : List ℕ
   pub words : List ℕ
-  pub under : List ℕ
-  pub stages : ℕ
-  pub statuses : ℕ
   pub event : ℕ
   pub before : List ℕ
 
 -- the pattern of the step with these values
-unfoldable pub patternAt : Fixed → List ℕ → ℕ
-patternAt x values =
-    pattern (sideOf (take (x .statuses) (runOver
-    (record { words = x .words; under = x .under; stages = x .stages; event = x .event; values = values; before = x .before })
-    (x .plan)
-    (take (x .statuses * 2) (x .order)))))
+abbrev pub patternAt : Fixed → List ℕ → ℕ
+patternAt x values = patternOf (x .words) (x .plan) (record { event = x .event; values = values; before = x .before })
 
--- a sheet, an event, the values after it and the marks before
-module _ (a : Accepted) (event : ℕ) (values before : List ℕ) where
+-- a sheet at a moment
+module _ (a : Accepted) (m : Moment) where
   abbrev pub fixedOf : Fixed
-  fixedOf = record {
-    plan = a .plan;
-    order = a .order;
-    words = a .words;
-    under = a .heads .under;
-    stages = a .heads .stages;
-    statuses = a .heads .stages + a .heads .miles;
-    event = event;
-    before = before;
-  }
+  fixedOf = record { plan = a .plan; words = a .words; event = m .event; before = m .before }
 
   -- the values to be tried in each field
   unfoldable pub triedOf : List (List ℕ)
-  triedOf = triedFrom (take (a .top) (a .words)) (a .heads .fields) 0 values
+  triedOf = triedFrom (take (a .top) (a .words)) (a .heads .fields) 0 (m .values)
 
   -- the patterns of all choices, ascending, each once
   unfoldable pub listOf : List ℕ
@@ -73,15 +62,16 @@ module _ (a : Accepted) (event : ℕ) (values before : List ℕ) where
   -- what is returned, where so much room is lent: MANY comes before ROOM
   unfoldable pub replyFor : ℕ → Reply
   replyFor room =
-      cond (ltb partLimit (size triedOf)) (refusedReply 10 0 0)
-      (cond (leb (length listOf) room) (record { number = 0; paper = 0; line = 0; count = length listOf; tasks = 0 }) (refusedReply 9 0 0))
+      cond (ltb partLimit (size triedOf)) (refusedReply MANY 0 0)
+      (cond (leb (length listOf) room) (record { number = 0; paper = 0; line = 0; count = length listOf; tasks = 0 }) (refusedReply ROOM 0 0))
 
   -- and what the space then holds
   unfoldable pub spaceFor : List ℕ → List ℕ
   spaceFor lent = cond (ltb partLimit (size triedOf)) lent (cond (leb (length listOf) (length lent)) (listOf ++ drop (length listOf) lent) lent)
 
--- what a caller sees to: tables, words and values within their limits
-pub record Ready (a : Accepted) (values : List ℕ) : Type 0 where
+-- what a caller sees to: tables, nodes, words and values within their limits
+pub record Ready (a : Accepted) (m : Moment) : Type 0 where
   pub sized : Sized (a .heads)
+  pub few-nodes : a .plan .nodes ≤ 64
   pub few-words : a .top ≤ 1024
-  pub few-values : (f : ℕ) → f < 16 → getD values f 0 < 4294967296
+  pub few-values : (f : ℕ) → f < 16 → getD (m .values) f 0 < 4294967296

@@ -12,34 +12,46 @@ use lib.ListN.{length, length-append, length-map, take, drop}
 use lib.Seq.{take-at}
 use Rattle.meaning.specs.Text.{text, from, joined}
 use Rattle.meaning.specs.Refusal.{Answer, taken, refused, onTaken, MANY, ROOM}
-use Rattle.meaning.specs.Sheet.{Sheet, Event, Status, eventNames, statusNames, statuses, withRules}
+use Rattle.meaning.specs.Sheet.{Event, Status, eventNames, statusNames, statuses}
+use Rattle.meaning.specs.Sheet as M
+use Rattle.meaning.specs.Tests.{tests}
 use Rattle.meaning.specs.Step.{moment, putIn, startedFrom, started, pattern}
 use Rattle.meaning.specs.Outlook as Outlook
 use Rattle.meaning.specs.Write.{line}
-use Rattle.meaning.specs.Doors.{Case, readCase, next, outlook, fitting, replied, written}
+use Rattle.meaning.specs.Doors.{readSheet, readTold, Case, readCase, next, outlook, fitting, replied, written}
 use Rattle.meaning.specs.Desk.{paperLength, firstPaper, afterPaper, refusalText, startLines, outlookLines, printed, deskOutput}
-use Rattle.theory.specs.Formed.{Well}
-use Rattle.theory.specs.Papers.{Papers, case-holds}
+use Rattle.theory.specs.Formed.{WellHeads}
+use Rattle.theory.specs.Papers.{Papers, case-holds, caseOf, case-joined, case-short}
 use Rattle.theory.specs.Cases.{at, after, case-meets}
 use Rattle.theory.specs.Accepted.{card-length, case-entries}
 use Rattle.tables.specs.declared.Heads.{Heads}
 use Rattle.tables.specs.Heads.{Sized, allNames, statusAt, headsOf, asHeads}
 use Rattle.tables.proofs.Padded.{names-length}
+use Rattle.tables.proofs.Tables.{heads-again}
+use Rattle.card.specs.declared.Card.{Card}
+use Rattle.card.specs.Answers.{asCard}
+use Rattle.event.specs.declared.Happening.{Happening}
 use Rattle.event.specs.Answers.{asHappening}
 use Rattle.space.specs.Answers.{Wrote}
 use Rattle.space.proofs.Laws.{wrote-long, wrote-room, wrote-both}
 use Rattle.write.specs.Answers.{spaceWith}
 use Rattle.sets.specs.Front.{Front}
 use Rattle.combos.specs.Numbered.{size}
-use Rattle.accepted.proofs.Callers.{heads-bare}
-use Rattle.case.specs.declared.CaseRead.{CaseRead}
-use Rattle.case.specs.declared.Reply.{Reply}
-use Rattle.case.specs.Answers.{asReply, refusedReply, takenCase, asCase}
-use Rattle.case.proofs.Callers.{case-read, case-wrong, case-short}
+use Rattle.reply.specs.declared.Reply.{Reply}
+use Rattle.reply.specs.Answers.{asReply, refusedReply}
+use Rattle.test.specs.declared.Moment.{Moment}
+use Rattle.test.specs.Codes.{asMoment}
+use Rattle.moment.specs.Tables.{momentOf}
+use Rattle.accepted.specs.declared.Accepted.{Accepted}
+use Rattle.accepted.specs.Answers.{takenSheet, asAccepted}
+use Rattle.accepted.proofs.Callers.{accept-read, accept-wrong, accept-sized, accept-heads}
+use Rattle.case.specs.declared.Told.{Told}
+use Rattle.case.specs.Answers.{asTold}
+use Rattle.case.proofs.Callers.{told-read, told-wrong}
 use Rattle.next.specs.Next.{textAfter, tasksAfter, replyAfter}
 use Rattle.next.proofs.Callers.{text-after, tasks-after}
 use Rattle.outlook.specs.Patterns.{Ready, triedOf, listOf, replyFor, spaceFor}
-use Rattle.outlook.proofs.Callers.{ready, reply-outlook, space-outlook}
+use Rattle.outlook.proofs.Callers.{ready, moment-at, reply-outlook, space-outlook}
 use Rattle.print.specs.Lines.{startText, patternText, manyText}
 use Rattle.print.proofs.Callers.{refusal-few}
 use Rattle.split.proofs.Callers.{paper-fits}
@@ -48,10 +60,10 @@ use Rattle.output.proofs.Lines.{starts-few, listed-few, part-long}
 
 -- TASKS
 
-started-long : (sh : Sheet) (before after : List Bool) (x : ℕ) (ss : List Status) → length (startedFrom sh before after x ss) ≡ length ss
+started-long : (all : List Status) (before after : List Bool) (x : ℕ) (ss : List Status) → length (startedFrom all before after x ss) ≡ length ss
 unfolding startedFrom
-started-long sh before after x [] = refl
-started-long sh before after x (s ∷ ss) = ap suc (started-long sh before after (suc x) ss)
+started-long all before after x [] = refl
+started-long all before after x (s ∷ ss) = ap suc (started-long all before after (suc x) ss)
 
 -- the lines of the stages from place x on, told by the bits of a pattern
 starts-are : (h : Heads) (n x : ℕ) (bs : List Bool) → length bs ≡ n → startsText (h .names) (h .fields + h .events + x) n (pattern bs) ≡ startLines (map (statusAt h) (from x n)) bs
@@ -71,16 +83,16 @@ starts-are h (suc n) x (false ∷ bs) l =
     rw (ne-eqb ((2 * pattern bs) % 2) 1 even, half, z) (starts-are h n (suc x) bs (omega arith))
 
 -- those of a sheet
-stages-are : (sh : Sheet) → Well sh → map (statusAt (asHeads sh)) (from 0 (asHeads sh .stages)) ≡ sh .stages
-unfolding headsOf withRules
-stages-are sh w = ap (λ (sh : Sheet). sh .stages) (heads-bare sh w)
+stages-are : (hd : M.Heads) → WellHeads hd → map (statusAt (asHeads hd)) (from 0 (asHeads hd .stages)) ≡ hd .stages
+unfolding headsOf
+stages-are hd w = ap (λ (hd : M.Heads). hd .stages) (heads-again hd w)
 
-sheet-starts : (sh : Sheet) → Well sh → (bs : List Bool) → length bs ≡ length (sh .stages)
-    → startsText (asHeads sh .names) (asHeads sh .fields + asHeads sh .events) (asHeads sh .stages) (pattern bs) ≡ startLines (sh .stages) bs
+sheet-starts : (hd : M.Heads) → WellHeads hd → (bs : List Bool) → length bs ≡ length (hd .stages)
+    → startsText (asHeads hd .names) (asHeads hd .fields + asHeads hd .events) (asHeads hd .stages) (pattern bs) ≡ startLines (hd .stages) bs
 unfolding asHeads
-sheet-starts sh w bs l =
-    let z : asHeads sh .fields + asHeads sh .events + 0 ≡ asHeads sh .fields + asHeads sh .events = omega arith in
-    ap (λ i. startsText (asHeads sh .names) i (asHeads sh .stages) (pattern bs)) (sym z) ∙ starts-are (asHeads sh) (length (sh .stages)) 0 bs l ∙ ap (λ ss. startLines ss bs) (stages-are sh w)
+sheet-starts hd w bs l =
+    let z : asHeads hd .fields + asHeads hd .events + 0 ≡ asHeads hd .fields + asHeads hd .events = omega arith in
+    ap (λ i. startsText (asHeads hd .names) i (asHeads hd .stages) (pattern bs)) (sym z) ∙ starts-are (asHeads hd) (length (hd .stages)) 0 bs l ∙ ap (λ ss. startLines ss bs) (stages-are hd w)
 
 -- THE OUTLOOK
 
@@ -124,78 +136,89 @@ module _ (s c e : List ℕ) (k : Case) (q : readCase s c e ≡ taken k) where
   unfolding next moment
   next-few =
       let (many, proper) = case-entries k papers in
-      card-length (k .sheet) (papers .well) (putIn (k .happening .puts) (k .card .entries)) (after k) many (case-meets k papers .long ∙ papers .marked) proper
+      card-length (k .sheet .heads) (papers .well .heads) (putIn (k .happening .puts) (k .card .entries)) (after k) many (case-meets k papers .long ∙ papers .marked) proper
 
-  tasks-long : length (next k .tasks) ≡ length (k .sheet .stages)
+  tasks-long : length (next k .tasks) ≡ length (k .sheet .heads .stages)
   unfolding next started
-  tasks-long = started-long (k .sheet) (k .card .statuses) (after k) 0 (k .sheet .stages)
+  tasks-long = started-long (k .sheet .heads .stages) (k .card .statuses) (after k) 0 (k .sheet .heads .stages)
 
   -- an outlook is refused only as MANY
   refused-many : (n i j : ℕ) → outlook k ≡ refused n i j → n ≡ 10
   unfolding outlook
-  refused-many n i j f = go (Outlook.many (k .sheet) (at k)) f
+  refused-many n i j f = go (Outlook.many (tests (k .sheet)) (at k)) f
     where
       number : Answer (List ℕ) → ℕ
       number (taken l) = 10
       number (refused n i j) = n
 
-      go : (b : Bool) → _≡_ {A = Answer (List ℕ)} (elim b [ true ↦ refused MANY 0 0 | false ↦ taken (Outlook.patterns (k .sheet) (k .order) (at k)) ]) (refused n i j) → n ≡ 10
+      go : (b : Bool) → _≡_ {A = Answer (List ℕ)} (elim b [ true ↦ refused MANY 0 0 | false ↦ taken (Outlook.patterns (tests (k .sheet)) (k .order) (at k)) ]) (refused n i j) → n ≡ 10
       go true f = sym (ap number f)
       go false f = sym (ap number f)
 
-  abbrev read : CaseRead
-  read = takenCase k
+  -- the case as the code has it
+  abbrev a : Accepted
+  a = takenSheet (record { sheet = k .sheet; order = k .order })
 
-  listed-is : listedText (read .sheet) (k .happening .event) (read .values) (read .card .marks) ≡ outlookLines (outlook k)
+  abbrev given : Card
+  given = asCard (k .sheet .heads) (k .card)
+
+  abbrev happened : Happening
+  happened = asHappening (k .sheet .heads) (k .happening)
+
+  listed-is : listedText a (momentOf given happened) ≡ outlookLines (outlook k)
   unfolding listedText replyFor spaceFor
   listed-is =
-      let l = listOf (read .sheet) (k .happening .event) (read .values) (read .card .marks) in
-      answer-is l (ltb 4096 (size (triedOf (read .sheet) (k .happening .event) (read .values) (read .card .marks)))) (leb (length l) (length l)) (outlook k) (le-leb (length l) (length l) (omega arith)) refused-many
+      let m = asMoment (at k) in
+      let l = listOf a m in
+      ap (listedText a) (moment-at s c e k q)
+      ∙ answer-is l (ltb 4096 (size (triedOf a m))) (leb (length l) (length l)) (outlook k) (le-leb (length l) (length l) (omega arith)) refused-many
       (reply-outlook s c e k q (length l)) (space-outlook s c e k q l)
 
-  printed-is : printed (taken k) ≡ caseText read c e
-  unfolding printed caseText asHappening
-  printed-is = sym (ap₂ _++_ (ap₂ _++_ (text-after s c e k q) (ap (startsText (asHeads (k .sheet) .names) (asHeads (k .sheet) .fields + asHeads (k .sheet) .events) (asHeads (k .sheet) .stages)) (tasks-after s c e k q) ∙ sheet-starts (k .sheet) (papers .well) (next k .tasks) tasks-long)) listed-is)
+  printed-is : printed (taken k) ≡ caseText a given happened c e
+  unfolding printed caseText
+  printed-is =
+      let hd = k .sheet .heads in
+      sym (ap₂ _++_ (ap₂ _++_ (text-after s c e k q) (ap (startsText (asHeads hd .names) (asHeads hd .fields + asHeads hd .events) (asHeads hd .stages)) (tasks-after s c e k q) ∙ sheet-starts hd (papers .well .heads) (next k .tasks) tasks-long)) listed-is)
 
-  names-few : length (allNames (k .sheet)) ≤ 64
+  names-few : length (allNames (k .sheet .heads)) ≤ 64
   unfolding allNames eventNames statusNames
   names-few =
-      let sh = k .sheet in
+      let hd = k .sheet .heads in
       omega (
         arith,
-        length-append (sh .fields ++ eventNames (sh .events)) (statusNames (statuses sh)),
-        length-append (sh .fields) (eventNames (sh .events)),
-        length-map (sh .events) (λ (e : Event). e .name),
-        length-map (statuses sh) (λ (s : Status). s .name),
-        papers .well .fields-few,
-        papers .well .events-few,
-        papers .well .statuses-few,
+        length-append (hd .fields ++ eventNames (hd .events)) (statusNames (statuses hd)),
+        length-append (hd .fields) (eventNames (hd .events)),
+        length-map (hd .events) (λ (e : Event). e .name),
+        length-map (statuses hd) (λ (s : Status). s .name),
+        papers .well .heads .fields-few,
+        papers .well .heads .events-few,
+        papers .well .heads .statuses-few,
       )
 
-  names-held : length (asHeads (k .sheet) .names) ≡ 64
+  names-held : length (asHeads (k .sheet .heads) .names) ≡ 64
   unfolding asHeads
-  names-held = names-length 64 (allNames (k .sheet)) names-few
+  names-held = names-length 64 (allNames (k .sheet .heads)) names-few
 
-  within : Within read c e
-  within = record { names-held = names-held; ready = ready s c e k q; card-few = case-short s c e k q .0; event-few = case-short s c e k q .1; next-few = rw (text-after s c e k q) next-few }
+  within : Within a given happened c e
+  within = record { names-held = names-held; ready = rw (moment-at s c e k q) (ready s c e k q); card-few = case-short s c e k q .0; event-few = case-short s c e k q .1; next-few = rw (text-after s c e k q) next-few }
 
 -- A CASE THAT WAS READ
 
-module _ (read : CaseRead) (c e : List ℕ) (w : Within read c e) where
+module _ (a : Accepted) (given : Card) (happened : Happening) (c e : List ℕ) (w : Within a given happened c e) where
   abbrev heads : Heads
-  heads = read .sheet .heads
+  heads = a .heads
 
   abbrev starts : List ℕ
-  starts = startsText (heads .names) (heads .fields + heads .events) (heads .stages) (tasksAfter read)
+  starts = startsText (heads .names) (heads .fields + heads .events) (heads .stages) (tasksAfter a given happened)
 
   abbrev listed : List ℕ
-  listed = listedText (read .sheet) (read .happening .event) (read .values) (read .card .marks)
+  listed = listedText a (momentOf given happened)
 
-  pub read-sized : Sized (read .sheet .heads)
+  pub read-sized : Sized (a .heads)
   read-sized = w .ready .sized
 
-  pub read-ready : Ready (read .sheet) (read .values)
-  read-ready = w .ready
+  pub read-ready : (m : Moment) → m ≡ momentOf given happened → Ready a m
+  read-ready m is = rw is (w .ready)
 
   pub read-card : length c ≤ 1024
   read-card = w .card-few
@@ -203,82 +226,112 @@ module _ (read : CaseRead) (c e : List ℕ) (w : Within read c e) where
   pub read-event : length e ≤ 512
   read-event = w .event-few
 
-  pub read-sum : Fits w64 (read .sheet .heads .fields + read .sheet .heads .events)
+  pub read-sum : Fits w64 (a .heads .fields + a .heads .events)
   read-sum = omega (arith, w .ready .sized .few-fields, w .ready .sized .few-events)
 
-  pub read-held : 64 ≡ length (read .sheet .heads .names)
+  pub read-held : 64 ≡ length (a .heads .names)
   read-held = sym (w .names-held)
 
-  pub read-names : read .sheet .heads .fields + read .sheet .heads .events + read .sheet .heads .stages ≤ length (read .sheet .heads .names)
+  pub read-names : a .heads .fields + a .heads .events + a .heads .stages ≤ length (a .heads .names)
   read-names = omega (arith, w .names-held, w .ready .sized .few-fields, w .ready .sized .few-events, w .ready .sized .few-statuses)
 
   few : length starts ≤ 640
-  few = omega (arith, starts-few (heads .names) (heads .fields + heads .events) (heads .stages) (tasksAfter read), w .ready .sized .few-statuses)
+  few = omega (arith, starts-few (heads .names) (heads .fields + heads .events) (heads .stages) (tasksAfter a given happened), w .ready .sized .few-statuses)
 
   module _ (o : List ℕ) (room : 81920 ≤ length o) where
-    both-fit : 0 + length (textAfter read c e ++ starts) ≤ length o
-    both-fit = omega (arith, few, w .next-few, length-append (textAfter read c e) starts)
+    both-fit : 0 + length (textAfter a given happened c e ++ starts) ≤ length o
+    both-fit = omega (arith, few, w .next-few, length-append (textAfter a given happened c e) starts)
 
-    all-fit : 0 + length (textAfter read c e ++ starts ++ listed) ≤ length o
-    all-fit = omega (arith, both-fit, few, w .next-few, length-append (textAfter read c e) starts, length-append (textAfter read c e ++ starts) listed, listed-few (read .sheet) (read .happening .event) (read .values) (read .card .marks))
+    all-fit : 0 + length (textAfter a given happened c e ++ starts ++ listed) ≤ length o
+    all-fit = omega (arith, both-fit, few, w .next-few, length-append (textAfter a given happened c e) starts, length-append (textAfter a given happened c e ++ starts) listed, listed-few a (momentOf given happened))
 
-    module _ (o1 : List ℕ) (r : Reply) (answer : r ≡ replyAfter read c e (length o)) (space : o1 ≡ spaceWith o (textAfter read c e)) where
-      fits : leb (length (textAfter read c e)) (length o) ≡ true
-      fits = le-leb (length (textAfter read c e)) (length o) (omega (arith, w .next-few))
+    module _ (o1 : List ℕ) (r : Reply) (answer : r ≡ replyAfter a given happened c e (length o)) (space : o1 ≡ spaceWith o (textAfter a given happened c e)) where
+      fits : leb (length (textAfter a given happened c e)) (length o) ≡ true
+      fits = le-leb (length (textAfter a given happened c e)) (length o) (omega (arith, w .next-few))
 
-      reply-is : r ≡ record { number = 0; paper = 0; line = 0; count = length (textAfter read c e); tasks = tasksAfter read }
+      reply-is : r ≡ record { number = 0; paper = 0; line = 0; count = length (textAfter a given happened c e); tasks = tasksAfter a given happened }
       unfolding replyAfter
       reply-is = answer ∙ rw fits
 
-      carded : Wrote 0 (textAfter read c e) o o1 (r .count)
+      carded : Wrote 0 (textAfter a given happened c e) o o1 (r .count)
       unfolding spaceWith
       carded =
-          let z : 0 + length (textAfter read c e) ≡ length (textAfter read c e) = omega arith in
+          let z : 0 + length (textAfter a given happened c e) ≡ length (textAfter a given happened c e) = omega arith in
           record { space = rw z (space ∙ rw fits); next = rw z (ap (λ (r : Reply). r .count) reply-is) }
 
       abbrev told-starts : List ℕ
-      told-starts = startsText (read .sheet .heads .names) (read .sheet .heads .fields + read .sheet .heads .events) (read .sheet .heads .stages) (r .tasks)
+      told-starts = startsText (a .heads .names) (a .heads .fields + a .heads .events) (a .heads .stages) (r .tasks)
 
       starts-is : told-starts ≡ starts
       starts-is = ap (startsText (heads .names) (heads .fields + heads .events) (heads .stages)) (ap (λ (r : Reply). r .tasks) reply-is)
 
       pub read-starts : r .count + length told-starts ≤ length o1
-      read-starts = rw starts-is (wrote-room 0 (textAfter read c e) starts o o1 (r .count) both-fit carded)
+      read-starts = rw starts-is (wrote-room 0 (textAfter a given happened c e) starts o o1 (r .count) both-fit carded)
 
       module _ (o2 : List ℕ) (b : ℕ) (v : Wrote (r .count) told-starts o1 o2 b) where
-        begun : Wrote 0 (textAfter read c e ++ starts) o o2 b
-        begun = wrote-both 0 (textAfter read c e) starts o o1 (r .count) both-fit carded o2 b (rw starts-is at v)
+        begun : Wrote 0 (textAfter a given happened c e ++ starts) o o2 b
+        begun = wrote-both 0 (textAfter a given happened c e) starts o o1 (r .count) both-fit carded o2 b (rw starts-is at v)
 
         pub read-listed : b + 77824 ≤ length o2
-        read-listed = omega (arith, begun .next, wrote-long 0 (textAfter read c e ++ starts) listed o o2 b all-fit begun, few, w .next-few, length-append (textAfter read c e) starts)
+        read-listed = omega (arith, begun .next, wrote-long 0 (textAfter a given happened c e ++ starts) listed o o2 b all-fit begun, few, w .next-few, length-append (textAfter a given happened c e) starts)
 
-        pub read-done : (o3 : List ℕ) (n : ℕ) → Wrote b (listedText (read .sheet) (read .happening .event) (read .values) (read .card .marks)) o2 o3 n → Wrote 0 (caseText read c e) o o3 n
+        pub read-done : (m : Moment) → m ≡ momentOf given happened → (o3 : List ℕ) (n : ℕ) → Wrote b (listedText a m) o2 o3 n → Wrote 0 (caseText a given happened c e) o o3 n
         unfolding caseText
-        read-done o3 n u = wrote-both 0 (textAfter read c e ++ starts) listed o o2 b all-fit begun o3 n u
+        read-done m is o3 n u = wrote-both 0 (textAfter a given happened c e ++ starts) listed o o2 b all-fit begun o3 n (rw is at u)
 
 pub ruleset reading = (read-held, read-sized, read-ready, read-card, read-event, read-sum, read-names, read-starts, read-listed, read-done)
 
 -- THE PAPERS OF A CASE
 
-module _ (s c e : List ℕ) (read : CaseRead) (told : read ≡ asCase (readCase s c e)) where
-  pub case-refused : (read .number ≡ 0 → ⊥) → (o o1 : List ℕ) (r : ℕ) → Wrote 0 (refusalText (read .number) (read .paper) (read .line)) o o1 r → Wrote 0 (printed (readCase s c e)) o o1 r
-  unfolding printed
-  case-refused z o o1 r v = rw (case-wrong s c e read told z) v
+-- the same of equal parts
+module _ {x y : Accepted} {c d : Card} {h i : Happening} (p : x ≡ y) (q : c ≡ d) (r : h ≡ i) (card event : List ℕ) where
+  within-as : Within y d i card event → Within x c h card event
+  within-as w = rw (p, q, r) w
 
-  module _ (z : read .number ≡ 0) where
-    pub case-within : Within read c e
-    case-within = let (k, q, is, papers) = case-read s c e read told z in subst (λ (x : CaseRead). Within x c e) (sym is) (within s c e k q)
+  text-as : caseText x c h card event ≡ caseText y d i card event
+  text-as = rw (p, q, r)
 
-    pub case-done : (o o1 : List ℕ) (r : ℕ) → Wrote 0 (caseText read c e) o o1 r → Wrote 0 (printed (readCase s c e)) o o1 r
-    case-done o o1 r v =
-        let (k, q, is, papers) = case-read s c e read told z in
-        subst (λ w. Wrote 0 w o o1 r) (ap (λ (x : CaseRead). caseText x c e) is ∙ sym (ap printed q ∙ printed-is s c e k q)) v
+module _ (s c e : List ℕ) (x : Accepted) (sheet-told : x ≡ asAccepted (readSheet s)) where
+  pub case-sheet : (x .number ≡ 0 → ⊥) → (o o1 : List ℕ) (r : ℕ) → Wrote 0 (refusalText (x .number) 1 (x .line)) o o1 r → Wrote 0 (printed (readCase s c e)) o o1 r
+  unfolding printed readCase
+  case-sheet z o o1 r v = rw (accept-wrong s x sheet-told z) v
+
+  module _ (zero : x .number ≡ 0) where
+    pub case-sized : Sized (x .heads)
+    case-sized = accept-sized s x sheet-told zero
+
+    abbrev hd : M.Heads
+    hd = accept-read s x sheet-told zero .sheet .sheet .heads
+
+    module _ (t : Told) (told : t ≡ asTold (headsOf (x .heads)) (readTold (headsOf (x .heads)) c e)) where
+      told-is : t ≡ asTold hd (readTold hd c e)
+      told-is = told ∙ ap (λ hd. asTold hd (readTold hd c e)) (accept-heads s x sheet-told zero)
+
+      pub case-refused : (t .number ≡ 0 → ⊥) → (o o1 : List ℕ) (r : ℕ) → Wrote 0 (refusalText (t .number) (t .paper) (t .line)) o o1 r → Wrote 0 (printed (readCase s c e)) o o1 r
+      unfolding printed readCase
+      case-refused z o o1 r v = rw (accept-read s x sheet-told zero .same, told-wrong hd c e t told-is z) v
+
+      module _ (read : t .number ≡ 0) where
+        the-case : (k : Case) × (readCase s c e ≡ taken k) × (x ≡ takenSheet (record { sheet = k .sheet; order = k .order }))
+            × (t .card ≡ asCard (k .sheet .heads) (k .card)) × (t .happening ≡ asHappening (k .sheet .heads) (k .happening))
+        the-case =
+            let a = accept-read s x sheet-told zero in
+            let (m, same, is) = told-read hd c e t told-is read in
+            (caseOf (a .sheet) m, case-joined s c e (a .sheet) m (a .same) same, a .is, ap (λ (t : Told). t .card) is, ap (λ (t : Told). t .happening) is)
+
+        pub case-within : Within x (t .card) (t .happening) c e
+        case-within = let (k, q, is, card, happened) = the-case in within-as is card happened c e (within s c e k q)
+
+        pub case-done : (o o1 : List ℕ) (r : ℕ) → Wrote 0 (caseText x (t .card) (t .happening) c e) o o1 r → Wrote 0 (printed (readCase s c e)) o o1 r
+        case-done o o1 r v =
+            let (k, q, is, card, happened) = the-case in
+            subst (λ w. Wrote 0 w o o1 r) (text-as is card happened c e ∙ sym (ap printed q ∙ printed-is s c e k q)) v
 
 -- room for a refusal
 pub refusal-room : (n p l : ℕ) (o : List ℕ) → 81920 ≤ length o → length (refusalText n p l) ≤ length o
 refusal-room n p l o h = omega (arith, refusal-few n p l)
 
-pub ruleset casing = (refusal-room, case-refused, case-within, case-done)
+pub ruleset casing = (refusal-room, case-sheet, case-sized, case-refused, case-within, case-done)
 
 -- THE WHOLE INPUT
 

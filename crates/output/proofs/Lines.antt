@@ -17,8 +17,9 @@ use Rattle.space.proofs.Laws.{Left, left-start, left-end, left-room, left-more}
 use Rattle.sets.proofs.Callers.{ascending-few}
 use Rattle.combos.specs.Numbered.{size, choice}
 use Rattle.accepted.specs.declared.Accepted.{Accepted}
-use Rattle.case.specs.declared.Reply.{Reply}
-use Rattle.case.specs.Answers.{refusedReply}
+use Rattle.reply.specs.declared.Reply.{Reply}
+use Rattle.reply.specs.Answers.{refusedReply}
+use Rattle.test.specs.declared.Moment.{Moment}
 use Rattle.outlook.specs.Patterns.{patternAt, fixedOf, triedOf, listOf, replyFor, spaceFor}
 use Rattle.print.specs.Lines.{startText, patternText, manyText}
 use Rattle.print.proofs.Callers.{start-few, pattern-few}
@@ -109,22 +110,22 @@ pub ruleset listing = (listing-start, listing-long, listing-end, listing-room, l
 
 -- THE OUTLOOK
 
-module _ (a : Accepted) (event : ℕ) (values before : List ℕ) where
+module _ (a : Accepted) (m : Moment) where
   abbrev many : Bool
-  many = ltb 4096 (size (triedOf a event values before))
+  many = ltb 4096 (size (triedOf a m))
 
   abbrev patterns : List ℕ
-  patterns = listOf a event values before
+  patterns = listOf a m
 
   -- there are as many patterns as parts at most
-  pub list-few : many ≡ false → length (listOf a event values before) ≤ 4096
+  pub list-few : many ≡ false → length (listOf a m) ≤ 4096
   unfolding listOf
   list-few e =
-      let f : ℕ → ℕ = λ x. patternAt (fixedOf a event values before) (choice (triedOf a event values before) x) in
-      let n = size (triedOf a event values before) in
+      let f : ℕ → ℕ = λ x. patternAt (fixedOf a m) (choice (triedOf a m) x) in
+      let n = size (triedOf a m) in
       omega (arith, ltb-false 4096 n e, ascending-few (map f (from 0 n)), length-map (from 0 n) f, from-length n 0)
 
-  pub listed-few : length (listedText a event values before) ≤ 77824
+  pub listed-few : length (listedText a m) ≤ 77824
   unfolding listedText line
   listed-few = go many refl
     where
@@ -133,7 +134,7 @@ module _ (a : Accepted) (event : ℕ) (values before : List ℕ) where
       go false e = omega (arith, patterns-few patterns, list-few e)
 
   -- the reply tells whether there are too many, and the space then holds the list
-  module _ (lent : List ℕ) (long : length lent ≡ 4096) (r : Reply) (told : r ≡ replyFor a event values before (length lent)) where
+  module _ (lent : List ℕ) (long : length lent ≡ 4096) (r : Reply) (told : r ≡ replyFor a m (length lent)) where
     reply-many : (r .number ≡ 0 → ⊥) → many ≡ true
     unfolding replyFor
     reply-many z = go many refl
@@ -157,7 +158,7 @@ module _ (a : Accepted) (event : ℕ) (values before : List ℕ) where
             let y : r ≡ record { number = 0; paper = 0; line = 0; count = length patterns; tasks = 0 } = told ∙ rw (e, le-leb (length patterns) (length lent) (omega (arith, list-few e))) in
             (e, ap (λ (r : Reply). r .count) y)
 
-    module _ (z : r .number ≡ 0) (ps : List ℕ) (space : ps ≡ spaceFor a event values before lent) where
+    module _ (z : r .number ≡ 0) (ps : List ℕ) (space : ps ≡ spaceFor a m lent) where
       kept : ps ≡ patterns ++ drop (length patterns) lent
       unfolding spaceFor
       kept = space ∙ rw (reply-list z .0, le-leb (length patterns) (length lent) (omega (arith, list-few (reply-list z .0))))
@@ -171,11 +172,11 @@ module _ (a : Accepted) (event : ℕ) (values before : List ℕ) where
       pub outlook-room : (at : ℕ) (o : List ℕ) → at + 77824 ≤ length o → at + length (joined patternText (take (r .count) ps)) ≤ length o
       outlook-room at o fits = rw list-is (omega (arith, patterns-few patterns, list-few (reply-list z .0)))
 
-      pub outlook-list : (at : ℕ) (o o1 : List ℕ) (q : ℕ) → Wrote at (joined patternText (take (r .count) ps)) o o1 q → Wrote at (listedText a event values before) o o1 q
+      pub outlook-list : (at : ℕ) (o o1 : List ℕ) (q : ℕ) → Wrote at (joined patternText (take (r .count) ps)) o o1 q → Wrote at (listedText a m) o o1 q
       unfolding listedText
       outlook-list at o o1 q v = rw (reply-list z .0) (rw list-is at v)
 
-    pub outlook-many : (r .number ≡ 0 → ⊥) → (at : ℕ) (o o1 : List ℕ) (q : ℕ) → Wrote at manyText o o1 q → Wrote at (listedText a event values before) o o1 q
+    pub outlook-many : (r .number ≡ 0 → ⊥) → (at : ℕ) (o o1 : List ℕ) (q : ℕ) → Wrote at manyText o o1 q → Wrote at (listedText a m) o o1 q
     unfolding listedText
     outlook-many z at o o1 q v = rw (reply-many z) v
 

@@ -1,10 +1,12 @@
 -- No second answer fits the contract, and no other content of the lent space.
-use Prim.Native.Nat.{ℕ}
-use mathlib.Core.Path.{_≡_}
-use mathlib.Core.List.{List}
-use Rattle.meaning.specs.Desk.{deskOutput}
-use Rattle.sets.specs.Front.{Front}
+use denote.Ref.{now}
+use Rattle.theory.specs.Determined.{Determines, Settles}
 use Rattle.sets.proofs.Only.{front-count-only, front-space-only}
+use Rattle.output.proofs.desk_output.Reads as DeskOutput
 
-pub desk-output-only : (input o o1 o2 : List ℕ) (r q : ℕ) → Front (deskOutput input) r o o1 → Front (deskOutput input) q o o2 → (r ≡ q) × (o1 ≡ o2)
-desk-output-only input o o1 o2 r q f g = (front-count-only f g, front-space-only f g)
+pub desk-output-only : Determines DeskOutput.Learnt
+desk-output-only κs a r q s t h g = front-count-only h g
+
+-- the lent space is the second parameter
+pub desk-output-space-only : Settles DeskOutput.Learnt (λ κs r s. now (s .1 .0))
+desk-output-space-only κs a r q s t h g = front-space-only h g

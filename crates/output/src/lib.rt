@@ -10,7 +10,9 @@ ghost use Rattle.outlook.specs.Patterns.{Ready};
 ghost use Rattle.print.specs.Lines.{patternText};
 ghost use Rattle.output.specs.Texts.{startsText, listedText, caseText, Within};
 use accepted::Accepted;
-use case::CaseRead;
+use card::Card;
+use event::Happening;
+use test::Moment;
 
 // A line for each task: `count` names from place `first` on, told by the bits of `tasks` from the lowest.
 fn put_starts(
@@ -52,19 +54,12 @@ fn put_patterns(out: &mut [u8], at: usize, patterns: &[u32]) -> usize
 }
 
 // The outlook: a line for each pattern, or that it is refused.
-fn put_outlook(
-    out: &mut [u8],
-    at: usize,
-    sheet: Accepted,
-    event: usize,
-    values: [u64; 16],
-    before: [u8; 32],
-) -> usize
-    requires { ⌜ Ready sheet values × (at + 77824 ≤ length (now out)) ⌝ }
-    ensures { λ r. ⌜ Wrote at (listedText sheet event values before) (now (out .entry)) (now (out .exit)) r ⌝ }
+fn put_outlook(out: &mut [u8], at: usize, sheet: Accepted, moment: Moment) -> usize
+    requires { ⌜ Ready sheet moment × (at + 77824 ≤ length (now out)) ⌝ }
+    ensures { λ r. ⌜ Wrote at (listedText sheet moment) (now (out .entry)) (now (out .exit)) r ⌝ }
 {
     let mut patterns = [0u32; 4096];
-    let reply = outlook::outlook_case(sheet, event, values, before, &mut patterns);
+    let reply = outlook::outlook_case(sheet, moment, &mut patterns);
     if reply.number != 0 {
         return print::put_many(out, at);
     }
@@ -72,18 +67,20 @@ fn put_outlook(
 }
 
 // What is printed for a case that was read: the next card, the tasks and the outlook.
-fn print_read<'a>(read: CaseRead, card: &'a [u8], event: &'a [u8], out: &mut [u8]) -> usize
-    requires { ⌜ Within read (now card) (now event) × (81920 ≤ length (now out)) ⌝ }
-    ensures { λ r. ⌜ Wrote 0 (caseText read (now (card .entry)) (now (event .entry))) (now (out .entry)) (now (out .exit)) r ⌝ }
+fn print_read<'a>(
+    sheet: Accepted,
+    given: Card,
+    happening: Happening,
+    card: &'a [u8],
+    event: &'a [u8],
+    out: &mut [u8],
+) -> usize
+    requires { ⌜ Within sheet given happening (now card) (now event) × (81920 ≤ length (now out)) ⌝ }
+    ensures { λ r. ⌜ Wrote 0 (caseText sheet given happening (now (card .entry)) (now (event .entry))) (now (out .entry)) (now (out .exit)) r ⌝ }
 {
-    let sheet = read.sheet;
     let heads = sheet.heads;
     let names = heads.names;
-    let given = read.card;
-    let before = given.marks;
-    let happening = read.happening;
-    let values = read.values;
-    let reply = next::step_case(read, card, event, out);
+    let reply = next::step_case(sheet, given, happening, card, event, out);
     let at = put_starts(
         out,
         reply.count,
@@ -92,7 +89,8 @@ fn print_read<'a>(read: CaseRead, card: &'a [u8], event: &'a [u8], out: &mut [u8
         heads.stages,
         reply.tasks,
     );
-    put_outlook(out, at, sheet, happening.event, values, before)
+    let moment = moment::moment_of(given, happening);
+    put_outlook(out, at, sheet, moment)
 }
 
 // What is printed for three papers.
@@ -100,11 +98,18 @@ fn print_case<'a>(sheet: &[u8], card: &'a [u8], event: &'a [u8], out: &mut [u8])
     requires { ⌜ 81920 ≤ length (now out) ⌝ }
     ensures { λ r. ⌜ Wrote 0 (printed (readCase (now (sheet .entry)) (now (card .entry)) (now (event .entry)))) (now (out .entry)) (now (out .exit)) r ⌝ }
 {
-    let read = case::read_case(sheet, card, event);
-    if read.number != 0 {
-        return print::put_refusal(out, read.number, read.paper, read.line);
+    let accepted = accepted::accept(sheet);
+    if accepted.number != 0 {
+        return print::put_refusal(out, accepted.number, reply::SHEET, accepted.line);
     }
-    print_read(read, card, event, out)
+    let heads = accepted.heads;
+    let told = case::read_told(heads, card, event);
+    if told.number != 0 {
+        return print::put_refusal(out, told.number, told.paper, told.line);
+    }
+    let given = told.card;
+    let happening = told.happening;
+    print_read(accepted, given, happening, card, event, out)
 }
 
 // What is printed for the whole input, at the start of `out`; answers how long it is.
@@ -113,7 +118,7 @@ pub fn desk_output(input: &[u8], out: &mut [u8]) -> usize
     ensures { λ r. ⌜ Front (deskOutput (now (input .entry))) r (now (out .entry)) (now (out .exit)) ⌝ }
 {
     if 34304 < input.len() {
-        return print::put_refusal(out, 1, 0, 0);
+        return print::put_refusal(out, reply::LONG, 0, 0);
     }
     let a = split::paper_len(input);
     let rest = text::rest(input, a);

@@ -10,7 +10,7 @@ use lib.Dec.{ltb}
 use lib.ListN.{length, drop, replicate, length-append, length-map, drop-of-length-le}
 use borrow.Author.Tests.{lt-ltb, le-ltb}
 use Rattle.meaning.specs.Number.{Value, missing, number-at}
-use Rattle.meaning.specs.Sheet.{Sheet}
+use Rattle.meaning.specs.Tests.{Test}
 use Rattle.meaning.specs.Step.{Moment}
 use Rattle.meaning.specs.Outlook.{cuts, parts, many, tried}
 use Rattle.cuts.specs.Codes.{cutCodes}
@@ -23,7 +23,7 @@ use Rattle.parts.proofs.Laws.{tried-behind, tried-known, tried-missing,
 
 -- for any coding of values by numbers that has 0 for `?`, and cuts as words tell them
 module _ (code : Value → ℕ) (of-missing : code missing ≡ 0) (of-number : (v : ℕ) → code (number-at v) ≡ suc v)
-    (sh : Sheet) (ws : List ℕ) (cut-codes : (f : ℕ) → f < 16 → cutCodes f ws ≡ map suc (cuts sh f)) where
+    (ts : List Test) (ws : List ℕ) (cut-codes : (f : ℕ) → f < 16 → cutCodes f ws ≡ map suc (cuts ts f)) where
   -- behind the fields
   tried-none : (fields k f : ℕ) → fields ≤ f → triedFrom ws fields f (replicate k 0) ≡ replicate k (0 ∷ [])
   unfolding triedFrom
@@ -35,13 +35,13 @@ module _ (code : Value → ℕ) (of-missing : code missing ≡ 0) (of-number : (
   coded-cuts (c ∷ cs) = ap₂ (λ x l. x ∷ l) (of-number c) (coded-cuts cs)
 
   tried-from : (fields f k : ℕ) (vs : List Value) → f + length vs ≡ fields → fields ≤ 16
-      → triedFrom ws fields f (map code vs ++ replicate k 0) ≡ map (map code) (tried sh f vs) ++ replicate k (0 ∷ [])
+      → triedFrom ws fields f (map code vs ++ replicate k 0) ≡ map (map code) (tried ts f vs) ++ replicate k (0 ∷ [])
   unfolding triedFrom tried
   tried-from fields f k [] e h = tried-none fields k f (omega arith)
   tried-from fields f k (missing ∷ vs) e h =
       ap₂ (λ r rs. r ∷ rs)
       (tried-missing ws fields f (code missing) (omega arith) of-missing
-      ∙ ap₂ (λ x l. x ∷ l) (sym (of-number 0)) (cut-codes f (omega arith) ∙ sym (coded-cuts (cuts sh f))))
+      ∙ ap₂ (λ x l. x ∷ l) (sym (of-number 0)) (cut-codes f (omega arith) ∙ sym (coded-cuts (cuts ts f))))
       (tried-from fields (suc f) k vs (omega arith) h)
   tried-from fields f k (number-at v ∷ vs) e h =
       ap₂ (λ r rs. r ∷ rs)
@@ -49,26 +49,26 @@ module _ (code : Value → ℕ) (of-missing : code missing ≡ 0) (of-number : (
       (tried-from fields (suc f) k vs (omega arith) h)
 
   -- "the product of the parts over the `?` fields"
-  parts-product : (f k : ℕ) (vs : List Value) → size (map (map code) (tried sh f vs) ++ replicate k (0 ∷ [])) ≡ parts sh f vs
+  parts-product : (f k : ℕ) (vs : List Value) → size (map (map code) (tried ts f vs) ++ replicate k (0 ∷ [])) ≡ parts ts f vs
   unfolding tried parts product
   parts-product f zero [] = refl
   parts-product f (suc k) [] = one-mul (size (replicate k (0 ∷ []))) ∙ parts-product f k []
   parts-product f k (missing ∷ vs) =
-      ap₂ (λ a b. suc a * b) (length-map (map number-at (cuts sh f)) code ∙ length-map (cuts sh f) number-at) (parts-product (suc f) k vs)
-  parts-product f k (number-at v ∷ vs) = one-mul (size (map (map code) (tried sh (suc f) vs) ++ replicate k (0 ∷ []))) ∙ parts-product (suc f) k vs
+      ap₂ (λ a b. suc a * b) (length-map (map number-at (cuts ts f)) code ∙ length-map (cuts ts f) number-at) (parts-product (suc f) k vs)
+  parts-product f k (number-at v ∷ vs) = one-mul (size (map (map code) (tried ts (suc f) vs) ++ replicate k (0 ∷ []))) ∙ parts-product (suc f) k vs
 
   -- of the values of all fields, with 0 behind them up to 16
   module _ (vs : List Value) (few : length vs ≤ 16) (values : List ℕ) (is : values ≡ map code vs ++ replicate (16 - length vs) 0) where
-    pub tried-lists : triedFrom ws (length vs) 0 values ≡ map (map code) (tried sh 0 vs) ++ replicate (16 - length vs) (0 ∷ [])
+    pub tried-lists : triedFrom ws (length vs) 0 values ≡ map (map code) (tried ts 0 vs) ++ replicate (16 - length vs) (0 ∷ [])
     tried-lists = ap (triedFrom ws (length vs) 0) is ∙ tried-from (length vs) 0 (16 - length vs) vs (omega arith) few
 
-    pub tried-product : size (triedFrom ws (length vs) 0 values) ≡ parts sh 0 vs
+    pub tried-product : size (triedFrom ws (length vs) 0 values) ≡ parts ts 0 vs
     tried-product = ap size tried-lists ∙ parts-product 0 (16 - length vs) vs
 
     -- "MANY is given exactly when the product .. exceeds 4,096"
-    pub tried-many : (m : Moment) → m .values ≡ vs → many sh m ≡ ltb 4096 (size (triedFrom ws (length vs) 0 values))
+    pub tried-many : (m : Moment) → m .values ≡ vs → many ts m ≡ ltb 4096 (size (triedFrom ws (length vs) 0 values))
     unfolding many
-    tried-many m e = ap (λ l. ltb 4096 (parts sh 0 l)) e ∙ ap (λ n. ltb 4096 n) (sym tried-product)
+    tried-many m e = ap (λ l. ltb 4096 (parts ts 0 l)) e ∙ ap (λ n. ltb 4096 n) (sym tried-product)
 
 -- WHAT `fill` LEAVES
 

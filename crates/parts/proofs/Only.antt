@@ -1,16 +1,15 @@
 -- No second answer fits: the contract of the public function determines what it answers, and the lent space.
-use Prim.Native.Nat.{ℕ}
-use mathlib.Core.Path.{_≡_}
-use mathlib.Core.List.{List}
-use Rattle.theory.specs.Determined.{only}
-use Rattle.parts.specs.Tried.{Filled}
+use denote.Ref.{now}
+use Rattle.theory.specs.Determined.{Determines, Settles, only}
+use Rattle.parts.proofs.fill.Reads as Fill
 
-module _ (rs : List (List ℕ)) (r q : ℕ) (flat-was flat lens-was lens flat′ lens′ : List ℕ) (a : Filled rs r flat-was flat lens-was lens) (b : Filled rs q flat-was flat′ lens-was lens′) where
-  pub fill-only : r ≡ q
-  fill-only = only (a .product) (b .product)
+pub fill-only : Determines Fill.Learnt
+fill-only κs a r q s t h g = only (h .product) (g .product)
 
-  pub fill-flat-only : flat ≡ flat′
-  fill-flat-only = only (a .lists) (b .lists)
+-- the values to be tried are the fifth parameter
+pub fill-flat-only : Settles Fill.Learnt (λ κs r s. now (s .1 .1 .1 .1 .0))
+fill-flat-only κs a r q s t h g = only (h .lists) (g .lists)
 
-  pub fill-lens-only : lens ≡ lens′
-  fill-lens-only = only (a .lengths) (b .lengths)
+-- their numbers are the sixth parameter
+pub fill-lens-only : Settles Fill.Learnt (λ κs r s. now (s .1 .1 .1 .1 .1 .0))
+fill-lens-only κs a r q s t h g = only (h .lengths) (g .lengths)

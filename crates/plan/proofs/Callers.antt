@@ -1,4 +1,4 @@
--- What callers use: the rules of each node of a list without repeats stand in the plan between the end before and its own.
+-- What callers use: the tests of each node of a list without repeats stand in the plan between the end before and its own.
 use Prim.Native.Nat.{ℕ, zero, suc, _+_, _-_, _≤_, _<_, min}
 use mathlib.Core.Path.{_≡_, refl, sym, ap, subst, _∙_}
 use mathlib.Core.Bool.{Bool, true, false}
@@ -7,17 +7,20 @@ use mathlib.Core.Logic.{inl, inr}
 use native.Mathlib.Omega.{arith}
 use lib.Dec.{eqb}
 use lib.ListN.{length, length-append, List·getD-append, getD, take, drop, replicate}
-use lib.Seq.{take-all, take-at, drop-at, take-append-add}
+use lib.Seq.{take-at, drop-at, take-append-add}
 use borrow.Author.Tests.{eqb-true}
 use Rattle.meaning.specs.Text.{In, keep, joined}
 use Rattle.theory.specs.Lists.{Once}
 use Rattle.tables.specs.Heads.{padded}
-use Rattle.rule.specs.declared.Rule.{Rule}
-use Rattle.rule.specs.Answers.{noRule, nodeOf}
-use Rattle.plan.specs.Plan.{groupOf, listedBy, endsFrom, asPlan}
-use Rattle.plan.proofs.Laws.{group-hit, group-miss, ends-length}
+use Rattle.tests.specs.declared.Test.{Test}
+use Rattle.tests.specs.declared.Tests.{Tests}
+use Rattle.tests.specs.Table.{noTest, rowsFor, asTests}
+use Rattle.tests.proofs.Callers.{tests-taken}
+use Rattle.plan.specs.declared.Plan.{Plan}
+use Rattle.plan.specs.Plan.{listedBy, endsFrom, asPlan, planFor}
+use Rattle.plan.proofs.Laws.{rows-hit, rows-miss, ends-length}
 
--- NO RULE TWICE
+-- NO TEST TWICE
 
 -- how often a list names a node
 abbrev named : Bool → ℕ → ℕ
@@ -44,49 +47,49 @@ hits-once n (k ∷ o) d = go (eqb n k) refl (hits-once n o (d .1))
     go true e h = let z : hits n o ≡ 0 = hits-none n o (λ i. d .0 (subst (λ x. In x o) (eqb-true n k e) i)) in omega arith
     go false e h = h
 
--- one rule more is listed as often as its node is named
-listed-cons : (r : Rule) (rs : List Rule) (o : List ℕ) → length (listedBy (r ∷ rs) o) ≡ hits (nodeOf r) o + length (listedBy rs o)
+-- one test more is listed as often as its node is named
+listed-cons : (t : Test) (ts : List Test) (o : List ℕ) → length (listedBy (t ∷ ts) o) ≡ hits (t .node) o + length (listedBy ts o)
 unfolding listedBy joined
-listed-cons r rs [] = refl
-listed-cons r rs (k ∷ o) = go (eqb (nodeOf r) k) refl (listed-cons r rs o)
+listed-cons t ts [] = refl
+listed-cons t ts (k ∷ o) = go (eqb (t .node) k) refl (listed-cons t ts o)
   where
-    go : (b : Bool) → eqb (nodeOf r) k ≡ b → length (joined (groupOf (r ∷ rs)) o) ≡ hits (nodeOf r) o + length (joined (groupOf rs) o)
-        → length (groupOf (r ∷ rs) k ++ joined (groupOf (r ∷ rs)) o) ≡ named b (hits (nodeOf r) o) + length (groupOf rs k ++ joined (groupOf rs) o)
-    go true e ih = rw (length-append, length-append, ap length (group-hit r rs k e)) (omega arith)
-    go false e ih = rw (length-append, length-append, ap length (group-miss r rs k e)) (omega arith)
+    go : (b : Bool) → eqb (t .node) k ≡ b → length (joined (rowsFor (t ∷ ts)) o) ≡ hits (t .node) o + length (joined (rowsFor ts) o)
+        → length (rowsFor (t ∷ ts) k ++ joined (rowsFor (t ∷ ts)) o) ≡ named b (hits (t .node) o) + length (rowsFor ts k ++ joined (rowsFor ts) o)
+    go true e ih = rw (length-append, length-append, ap length (rows-hit t ts k e)) (omega arith)
+    go false e ih = rw (length-append, length-append, ap length (rows-miss t ts k e)) (omega arith)
 
 none-listed : (o : List ℕ) → length (listedBy [] o) ≡ 0
-unfolding listedBy joined groupOf keep
+unfolding listedBy joined rowsFor keep
 none-listed [] = refl
 none-listed (k ∷ o) = none-listed o
 
-pub listed-few : (rows : List Rule) (o : List ℕ) → Once o → length (listedBy rows o) ≤ length rows
+pub listed-few : (rows : List Test) (o : List ℕ) → Once o → length (listedBy rows o) ≤ length rows
 listed-few [] o d = omega (arith, none-listed o)
-listed-few (r ∷ rs) o d = let z : length (listedBy (r ∷ rs) o) ≡ hits (nodeOf r) o + length (listedBy rs o) = listed-cons r rs o in omega (arith, hits-once (nodeOf r) o d, listed-few rs o d)
+listed-few (t ∷ ts) o d = let z : length (listedBy (t ∷ ts) o) ≡ hits (t .node) o + length (listedBy ts o) = listed-cons t ts o in omega (arith, hits-once (t .node) o d, listed-few ts o d)
 
--- WHERE THE RULES OF A NODE STAND
+-- WHERE THE TESTS OF A NODE STAND
 
--- the rules up to the next node
-pub listed-suc : (rows : List Rule) (o : List ℕ) (i : ℕ) → i < length o → length (listedBy rows (take (suc i) o)) ≡ length (listedBy rows (take i o)) + length (groupOf rows (getD o i 0))
+-- the tests up to the next node
+pub listed-suc : (rows : List Test) (o : List ℕ) (i : ℕ) → i < length o → length (listedBy rows (take (suc i) o)) ≡ length (listedBy rows (take i o)) + length (rowsFor rows (getD o i 0))
 unfolding listedBy joined
 listed-suc rows [] i h = absurd (omega arith)
 listed-suc rows (k ∷ o) zero h = rw length-append (omega arith)
 listed-suc rows (k ∷ o) (suc i) h = rw (length-append, length-append) (omega (arith, listed-suc rows o i (omega arith)))
 
--- an end counts the rules up to it
-ends-at : (n : ℕ) (rows : List Rule) (o : List ℕ) (i : ℕ) → i < length o → getD (endsFrom n rows o) i 0 ≡ min 128 (n + length (listedBy rows (take (suc i) o)))
+-- an end counts the tests up to it
+ends-at : (n : ℕ) (rows : List Test) (o : List ℕ) (i : ℕ) → i < length o → getD (endsFrom n rows o) i 0 ≡ min 160 (n + length (listedBy rows (take (suc i) o)))
 unfolding endsFrom listedBy joined
 ends-at n rows [] i h = absurd (omega arith)
 ends-at n rows (k ∷ o) zero h = rw length-append (omega arith)
-ends-at n rows (k ∷ o) (suc i) h = rw length-append (omega (arith, ends-at (min 128 (n + length (groupOf rows k))) rows o i (omega arith)))
+ends-at n rows (k ∷ o) (suc i) h = rw length-append (omega (arith, ends-at (min 160 (n + length (rowsFor rows k))) rows o i (omega arith)))
 
--- the rules of a node between those before and those behind
-listed-split : (rows : List Rule) (o : List ℕ) (i : ℕ) → i < length o → listedBy rows o ≡ listedBy rows (take i o) ++ (groupOf rows (getD o i 0) ++ listedBy rows (drop (suc i) o))
+-- the tests of a node between those before and those behind
+listed-split : (rows : List Test) (o : List ℕ) (i : ℕ) → i < length o → listedBy rows o ≡ listedBy rows (take i o) ++ (rowsFor rows (getD o i 0) ++ listedBy rows (drop (suc i) o))
 unfolding listedBy joined
 listed-split rows [] i h = absurd (omega arith)
 listed-split rows (k ∷ o) zero h = refl
 listed-split rows (k ∷ o) (suc i) h =
-    ap (λ r. groupOf rows k ++ r) (listed-split rows o i (omega arith)) ∙ sym (append-assoc (groupOf rows k) (listedBy rows (take i o)) (groupOf rows (getD o i 0) ++ listedBy rows (drop (suc i) o)))
+    ap (λ r. rowsFor rows k ++ r) (listed-split rows o i (omega arith)) ∙ sym (append-assoc (rowsFor rows k) (listedBy rows (take i o)) (rowsFor rows (getD o i 0) ++ listedBy rows (drop (suc i) o)))
 
 -- a middle taken out
 middle : {A : Type 0} (xs ys zs ts : List A) → take (length ys) (drop (length xs) ((xs ++ (ys ++ zs)) ++ ts)) ≡ ys
@@ -96,21 +99,23 @@ middle xs ys zs ts =
     ∙ ap (take (length ys)) (append-assoc ys zs ts)
     ∙ take-at ys (zs ++ ts) (length ys) refl
 
-module _ (rows : List Rule) (o : List ℕ) (few : length (listedBy rows o) ≤ 128) (i : ℕ) (h : i < length o) where
-  pub plan-end : getD (asPlan rows o .ends) i 0 ≡ length (listedBy rows (take (suc i) o))
+module _ (rows : List Test) (order : List ℕ) (nodes : ℕ) (o : List ℕ) (is : take nodes order ≡ o) (few : length (listedBy rows o) ≤ 160) (i : ℕ) (h : i < length o) where
+  pub plan-end : getD (asPlan rows order nodes .ends) i 0 ≡ length (listedBy rows (take (suc i) o))
   unfolding asPlan padded
   plan-end =
-      let total : length (listedBy rows o) ≡ length (listedBy rows (take i o)) + (length (groupOf rows (getD o i 0)) + length (listedBy rows (drop (suc i) o))) =
+      let total : length (listedBy rows o) ≡ length (listedBy rows (take i o)) + (length (rowsFor rows (getD o i 0)) + length (listedBy rows (drop (suc i) o))) =
       ap length (listed-split rows o i h) ∙ rw (length-append, length-append) refl in
-      List·getD-append (endsFrom 0 rows o) (replicate (64 - length (endsFrom 0 rows o)) 0) 0 i (omega (arith, ends-length 0 rows o))
+      ap (λ p. getD (padded 64 0 (endsFrom 0 rows p)) i 0) is
+      ∙ List·getD-append (endsFrom 0 rows o) (replicate (64 - length (endsFrom 0 rows o)) 0) 0 i (omega (arith, ends-length 0 rows o))
       ∙ ends-at 0 rows o i h
       ∙ omega (arith, listed-suc rows o i h)
 
-  pub plan-group : take (length (groupOf rows (getD o i 0))) (drop (length (listedBy rows (take i o))) (asPlan rows o .rows)) ≡ groupOf rows (getD o i 0)
+  pub plan-rows : take (length (rowsFor rows (getD o i 0))) (drop (length (listedBy rows (take i o))) (asPlan rows order nodes .rows)) ≡ rowsFor rows (getD o i 0)
   unfolding asPlan
-  plan-group =
-      let z : 128 ≡ length (listedBy rows o) + (128 - length (listedBy rows o)) = omega arith in
-      let all : take 128 (listedBy rows o ++ replicate 128 noRule) ≡ listedBy rows o ++ take (128 - length (listedBy rows o)) (replicate 128 noRule) =
-      ap (λ n. take n (listedBy rows o ++ replicate 128 noRule)) z ∙ take-append-add (listedBy rows o) (replicate 128 noRule) (128 - length (listedBy rows o)) in
-      ap (λ r. take (length (groupOf rows (getD o i 0))) (drop (length (listedBy rows (take i o))) r)) (all ∙ ap (λ l. l ++ take (128 - length (listedBy rows o)) (replicate 128 noRule)) (listed-split rows o i h))
-      ∙ middle (listedBy rows (take i o)) (groupOf rows (getD o i 0)) (listedBy rows (drop (suc i) o)) (take (128 - length (listedBy rows o)) (replicate 128 noRule))
+  plan-rows =
+      let z : 160 ≡ length (listedBy rows o) + (160 - length (listedBy rows o)) = omega arith in
+      let all : take 160 (listedBy rows o ++ replicate 160 noTest) ≡ listedBy rows o ++ take (160 - length (listedBy rows o)) (replicate 160 noTest) =
+      ap (λ n. take n (listedBy rows o ++ replicate 160 noTest)) z ∙ take-append-add (listedBy rows o) (replicate 160 noTest) (160 - length (listedBy rows o)) in
+      ap (λ p. take (length (rowsFor rows (getD o i 0))) (drop (length (listedBy rows (take i o))) (take 160 (listedBy rows p ++ replicate 160 noTest)))) is
+      ∙ ap (λ r. take (length (rowsFor rows (getD o i 0))) (drop (length (listedBy rows (take i o))) r)) (all ∙ ap (λ l. l ++ take (160 - length (listedBy rows o)) (replicate 160 noTest)) (listed-split rows o i h))
+      ∙ middle (listedBy rows (take i o)) (rowsFor rows (getD o i 0)) (listedBy rows (drop (suc i) o)) (take (160 - length (listedBy rows o)) (replicate 160 noTest))

@@ -1,182 +1,108 @@
--- Laws of the plan's functions: the node of a rule, the rules of a node put behind those listed, and one node after another.
+-- Laws of the plan: the tests of a node put behind those listed, and one node after another.
 use Prim.Native.Nat.{ℕ, zero, suc, _+_, _-_, _*_, _≤_, _<_, min}
-use mathlib.Core.Path.{_≡_, refl, sym, ap, ap₂, _∙_}
-use mathlib.Core.Bool.{Bool, true, false, not, _&&_, cond, true≢false, false≢true}
+use mathlib.Core.Path.{_≡_, refl, sym, ap, ap₂, subst, _∙_}
+use mathlib.Core.Bool.{Bool, true, false, not, _&&_, false≢true}
 use mathlib.Core.List.{List, [], _∷_, _++_, map}
 use native.Mathlib.Omega.{arith}
-use native.Mathlib.Nat.{zero-add, sub-zero, zero-sub}
+use native.Mathlib.Nat.{sub-zero, zero-sub}
 use native.Mathlib.Numerals.{add-one}
-use native.Mathlib.Decide.{decLe, decLt}
+use native.Mathlib.Decide.{decLt}
 use mir.Val.{Fits}
 use mir.Syntax.{w8, w64}
 use lib.Dec.{eqb, ltb}
-use lib.ListN.{length, length-map, length-take, length-set, drop-of-length-le, getD, take, drop, set, replicate}
-use lib.Seq.{sets, sets-eq, take-nil, take-all, take-take, drop-cons, getD-take}
+use lib.ListN.{length, length-map, length-take, drop-of-length-le, getD, take, drop, set, replicate}
+use lib.Seq.{sets, take-nil, drop-cons, getD-take}
 use borrow.Author.Tests.{eq-eqb, ne-eqb, lt-ltb, le-ltb, ltb-true, not-true, not-false}
 use Rattle.meaning.specs.Text.{keep, joined}
-use Rattle.rule.specs.declared.Rule.{Rule}
-use Rattle.rule.specs.Answers.{noRule, nodeOf}
 use Rattle.tables.specs.Heads.{padded}
-use Rattle.plan.specs.declared.Listed.{Listed}
-use Rattle.plan.specs.Plan.{groupOf, listedBy, endsFrom, asPlan}
-use Rattle.plan.specs.Listed.{noneListed, addIf, addAll}
+use Rattle.tests.specs.declared.Test.{Test}
+use Rattle.tests.specs.declared.Tests.{Tests}
+use Rattle.tests.specs.Table.{noTest, rowsFor}
+use Rattle.tests.proofs.Laws.{take-low, laid}
+use Rattle.plan.specs.Plan.{listedBy, endsFrom, asPlan}
+use Rattle.plan.specs.Listed.{Listed, noneListed, addIf, addAll}
 
--- THE NODE OF A RULE
+-- WHETHER A TEST GOES
 
-module _ (r : Rule) (x : ℕ) (is : x ≡ r .status) (n : ℕ) where
-  pub node-up : r .plus ≡ true → n ≡ x * 2 → n ≡ nodeOf r
-  node-up e z = rw (e, ← is) z
+module _ (n k count : ℕ) where
+  pub goes-other : (n ≡ k → ⊥) → false ≡ (eqb n k && ltb count 160)
+  goes-other h = rw (ne-eqb n k h)
 
-  pub node-down : r .plus ≡ false → n ≡ x * 2 + 1 → n ≡ nodeOf r
-  node-down e z = rw (e, ← is) z
+  pub goes-room : n ≡ k → ltb count 160 ≡ (eqb n k && ltb count 160)
+  goes-room h = rw (eq-eqb n k h)
 
-module _ (r : Rule) (k count n w : ℕ) (is : n ≡ nodeOf r) (same : w ≡ k) where
-  pub goes-other : (n ≡ w → ⊥) → false ≡ (eqb (nodeOf r) k && ltb count 128)
-  goes-other h = rw (← is, ← same, ne-eqb n w h)
+pub ruleset choosing = (goes-other, goes-room)
 
-  pub goes-room : n ≡ w → ltb count 128 ≡ (eqb (nodeOf r) k && ltb count 128)
-  goes-room h = rw (← is, ← same, eq-eqb n w h)
+-- THE TESTS OF ONE NODE
 
-pub ruleset choosing = (node-up, node-down, goes-other, goes-room)
+module _ (t : Test) (ts : List Test) (k : ℕ) where
+  pub rows-hit : eqb (t .node) k ≡ true → rowsFor (t ∷ ts) k ≡ t ∷ rowsFor ts k
+  unfolding rowsFor keep
+  rows-hit e = rw (keep, e)
 
--- THE RULES OF ONE NODE
+  pub rows-miss : eqb (t .node) k ≡ false → rowsFor (t ∷ ts) k ≡ rowsFor ts k
+  unfolding rowsFor keep
+  rows-miss e = rw (keep, e)
 
-module _ (r : Rule) (rs : List Rule) (k : ℕ) where
-  pub group-hit : eqb (nodeOf r) k ≡ true → groupOf (r ∷ rs) k ≡ r ∷ groupOf rs k
-  unfolding groupOf keep
-  group-hit e = rw (keep, e)
-
-  pub group-miss : eqb (nodeOf r) k ≡ false → groupOf (r ∷ rs) k ≡ groupOf rs k
-  unfolding groupOf keep
-  group-miss e = rw (keep, e)
-
--- a rule that is passed: of another node, or there is no room
-add-passed : (r : Rule) (rs : List Rule) (k : ℕ) (l : Listed) → (eqb (nodeOf r) k && ltb (l .count) 128) ≡ false → addAll l (groupOf (r ∷ rs) k) ≡ addAll l (groupOf rs k)
+-- a test that is passed: of another node, or there is no room
+add-passed : (t : Test) (ts : List Test) (k : ℕ) (l : Listed) → (eqb (t .node) k && ltb (l .count) 160) ≡ false → addAll l (rowsFor (t ∷ ts) k) ≡ addAll l (rowsFor ts k)
 unfolding addAll
-add-passed r rs k l e = go (eqb (nodeOf r) k) refl e
+add-passed t ts k l e = go (eqb (t .node) k) refl e
   where
-    go : (b : Bool) → eqb (nodeOf r) k ≡ b → (b && ltb (l .count) 128) ≡ false → addAll l (groupOf (r ∷ rs) k) ≡ addAll l (groupOf rs k)
-    go true f h = ap (addAll l) (group-hit r rs k f) ∙ ap (λ b. addAll (addIf b l r) (groupOf rs k)) h
-    go false f h = rw (group-miss r rs k f)
+    go : (b : Bool) → eqb (t .node) k ≡ b → (b && ltb (l .count) 160) ≡ false → addAll l (rowsFor (t ∷ ts) k) ≡ addAll l (rowsFor ts k)
+    go true f h = ap (addAll l) (rows-hit t ts k f) ∙ ap (λ b. addAll (addIf b l t) (rowsFor ts k)) h
+    go false f h = rw (rows-miss t ts k f)
 
--- a rule that is put down
-add-put : (r : Rule) (rs : List Rule) (k : ℕ) (l : Listed) → (eqb (nodeOf r) k && ltb (l .count) 128) ≡ true
-    → (l .count < 128) × (addAll l (groupOf (r ∷ rs) k) ≡ addAll (record { rows = set (l .rows) (l .count) r; count = suc (l .count) }) (groupOf rs k))
+-- a test that is put down
+add-put : (t : Test) (ts : List Test) (k : ℕ) (l : Listed) → (eqb (t .node) k && ltb (l .count) 160) ≡ true
+    → (l .count < 160) × (addAll l (rowsFor (t ∷ ts) k) ≡ addAll (record { rows = set (l .rows) (l .count) t; count = suc (l .count) }) (rowsFor ts k))
 unfolding addAll
-add-put r rs k l e = go (eqb (nodeOf r) k) refl e
+add-put t ts k l e = go (eqb (t .node) k) refl e
   where
-    go : (b : Bool) → eqb (nodeOf r) k ≡ b → (b && ltb (l .count) 128) ≡ true
-        → (l .count < 128) × (addAll l (groupOf (r ∷ rs) k) ≡ addAll (record { rows = set (l .rows) (l .count) r; count = suc (l .count) }) (groupOf rs k))
-    go true f h = (ltb-true (l .count) 128 h, ap (addAll l) (group-hit r rs k f) ∙ ap (λ b. addAll (addIf b l r) (groupOf rs k)) h)
+    go : (b : Bool) → eqb (t .node) k ≡ b → (b && ltb (l .count) 160) ≡ true
+        → (l .count < 160) × (addAll l (rowsFor (t ∷ ts) k) ≡ addAll (record { rows = set (l .rows) (l .count) t; count = suc (l .count) }) (rowsFor ts k))
+    go true f h = (ltb-true (l .count) 160 h, ap (addAll l) (rows-hit t ts k f) ∙ ap (λ b. addAll (addIf b l t) (rowsFor ts k)) h)
     go false f h = absurd (false≢true h)
-
--- the loop over the rules: what is still to come
-pub record Adding (k : ℕ) (all : List Rule) (end : ℕ) (rows₀ : List Rule) (count₀ : ℕ) (rows : List Rule) (count i : ℕ) : Type 0 where
-  pub within : i ≤ end
-  pub few : end ≤ 128
-  pub long : length all ≡ 128
-  pub same : addAll (record { rows = rows₀; count = count₀ }) (groupOf (take end all) k) ≡ addAll (record { rows = rows; count = count }) (groupOf (drop i (take end all)) k)
-
-pub adding-start : {B : Type 0} (f : Rule → B) (k : ℕ) (all : List Rule) (c end : ℕ) (rows : List Rule) (count : ℕ) → length (map f all) ≡ 128 → end ≡ min c 128
-    → Adding k all end rows count rows count 0
-adding-start f k all c end rows count h e = record { within = omega arith; few = omega arith; long = sym (length-map all f) ∙ h; same = refl }
-
-module _ (k : ℕ) (all : List Rule) (end : ℕ) (rows₀ : List Rule) (count₀ : ℕ) (rows : List Rule) (count i : ℕ) (inv : Adding k all end rows₀ count₀ rows count i) where
-  -- the rule at the place
-  next-rule : (d : Rule) → i < end → drop i (take end all) ≡ getD all i d ∷ drop (suc i) (take end all)
-  next-rule d h = drop-cons (take end all) i d (rw length-take (omega (arith, inv .few, inv .long))) ∙ ap (λ x. x ∷ drop (suc i) (take end all)) (getD-take end all i d h)
-
-  module _ (d : Rule) (h : i < end) (b : Bool) (is : b ≡ (eqb (nodeOf (getD all i d)) k && ltb count 128)) where
-    pub adding-passed : not b ≡ true → (j : ℕ) → j ≡ i + 1 → Adding k all end rows₀ count₀ rows count j
-    adding-passed t j z = rw z (record {
-      within = omega arith;
-      few = inv .few;
-      long = inv .long;
-      same =
-          inv .same
-          ∙ ap (λ rs. addAll (record { rows = rows; count = count }) (groupOf rs k)) (next-rule d h)
-          ∙ rw add-one (add-passed (getD all i d) (drop (suc i) (take end all)) k (record { rows = rows; count = count }) (sym is ∙ not-true b t));
-    })
-
-    pub adding-room : not b ≡ false → count < 128
-    adding-room t = add-put (getD all i d) [] k (record { rows = rows; count = count }) (sym is ∙ not-false b t) .0
-
-    pub adding-size : not b ≡ false → (n : ℕ) → n ≡ count * 8 → Fits w64 n
-    adding-size t n z = omega (arith, adding-room t)
-
-    pub adding-fits : not b ≡ false → (n : ℕ) → n ≡ count + 1 → Fits w64 n
-    adding-fits t n z = omega (arith, adding-room t)
-
-    pub adding-put : not b ≡ false → (j n : ℕ) → j ≡ i + 1 → n ≡ count + 1 → Adding k all end rows₀ count₀ (set rows count (getD all i d)) n j
-    adding-put t j n z y = rw (z, y) (record {
-      within = omega arith;
-      few = inv .few;
-      long = inv .long;
-      same =
-          inv .same
-          ∙ ap (λ rs. addAll (record { rows = rows; count = count }) (groupOf rs k)) (next-rule d h)
-          ∙ rw (add-one count, add-one) (add-put (getD all i d) (drop (suc i) (take end all)) k (record { rows = rows; count = count }) (sym is ∙ not-false b t) .1);
-    })
-
--- rows behind the last are not asked for
-take-low : (c : ℕ) (all : List Rule) → length all ≡ 128 → take (min c 128) all ≡ take c all
-take-low c all e = go (decLe c 128)
-  where
-    go : Dec (c ≤ 128) → take (min c 128) all ≡ take c all
-    go (yes h) = let z : min c 128 ≡ c = omega arith in ap (λ n. take n all) z
-    go (no h) = take-all (min c 128) all (omega arith) ∙ sym (take-all c all (omega arith))
-
-pub adding-done : (k : ℕ) (all : List Rule) (c end : ℕ) (l : Listed) (rows : List Rule) (count i : ℕ) → Adding k all end (l .rows) (l .count) rows count i → end ≡ min c 128 → end ≤ i
-    → record { rows = rows; count = count } ≡ addAll l (groupOf (take c all) k)
-unfolding addAll groupOf keep
-adding-done k all c end l rows count i inv e h =
-    let none : drop i (take end all) ≡ [] = drop-of-length-le (take end all) {i = i} (rw length-take (omega (arith, h))) in
-    sym (ap (λ rs. addAll l (groupOf rs k)) (sym (take-low c all (inv .long)) ∙ ap (λ n. take n all) (sym e)) ∙ inv .same ∙ ap (λ rs. addAll (record { rows = rows; count = count }) (groupOf rs k)) none)
-
-pub ruleset adding = (adding-start, adding-passed, adding-room, adding-size, adding-fits, adding-put, adding-done)
 
 -- ONE NODE AFTER ANOTHER
 
-pub nothing-listed : (r : Rule) → r ≡ noRule → record { rows = replicate 128 r; count = 0 } ≡ noneListed
-nothing-listed r e = ap (λ (r : Rule). record { rows = replicate 128 r; count = 0 }) e
-
--- how many rules are then listed
-add-count : (l : Listed) (rs : List Rule) → l .count ≤ 128 → addAll l rs .count ≡ min 128 (l .count + length rs)
+-- how many tests are then listed
+add-count : (l : Listed) (ts : List Test) → l .count ≤ 160 → addAll l ts .count ≡ min 160 (l .count + length ts)
 unfolding addAll
 add-count l [] h = omega arith
-add-count l (r ∷ rs) h = go (decLt (l .count) 128) (λ m g. add-count m rs g)
+add-count l (t ∷ ts) h = go (decLt (l .count) 160) (λ m g. add-count m ts g)
   where
-    go : Dec (l .count < 128) → ((m : Listed) → m .count ≤ 128 → addAll m rs .count ≡ min 128 (m .count + length rs)) → addAll l (r ∷ rs) .count ≡ min 128 (l .count + length (r ∷ rs))
+    go : Dec (l .count < 160) → ((m : Listed) → m .count ≤ 160 → addAll m ts .count ≡ min 160 (m .count + length ts)) → addAll l (t ∷ ts) .count ≡ min 160 (l .count + length (t ∷ ts))
     go (yes k) ih =
-        let e = ih (record { rows = set (l .rows) (l .count) r; count = suc (l .count) }) (omega arith) in
-        ap (λ b. addAll (addIf b l r) rs .count) (lt-ltb (l .count) 128 k) ∙ e ∙ omega arith
-    go (no k) ih = let e = ih l h in ap (λ b. addAll (addIf b l r) rs .count) (le-ltb (l .count) 128 (omega arith)) ∙ e ∙ omega arith
+        let e = ih (record { rows = set (l .rows) (l .count) t; count = suc (l .count) }) (omega arith) in
+        ap (λ b. addAll (addIf b l t) ts .count) (lt-ltb (l .count) 160 k) ∙ e ∙ omega arith
+    go (no k) ih = let e = ih l h in ap (λ b. addAll (addIf b l t) ts .count) (le-ltb (l .count) 160 (omega arith)) ∙ e ∙ omega arith
 
 -- and where they stand
-add-rows : (l : Listed) (rs : List Rule) → l .count ≤ 128 → addAll l rs .rows ≡ sets (l .rows) (l .count) (take (128 - l .count) rs)
+add-rows : (l : Listed) (ts : List Test) → l .count ≤ 160 → addAll l ts .rows ≡ sets (l .rows) (l .count) (take (160 - l .count) ts)
 unfolding addAll
-add-rows l [] h = ap (sets (l .rows) (l .count)) (sym (take-nil (128 - l .count)))
-add-rows l (r ∷ rs) h = go (decLt (l .count) 128) (λ m g. add-rows m rs g)
+add-rows l [] h = ap (sets (l .rows) (l .count)) (sym (take-nil (160 - l .count)))
+add-rows l (t ∷ ts) h = go (decLt (l .count) 160) (λ m g. add-rows m ts g)
   where
-    go : Dec (l .count < 128) → ((m : Listed) → m .count ≤ 128 → addAll m rs .rows ≡ sets (m .rows) (m .count) (take (128 - m .count) rs))
-        → addAll l (r ∷ rs) .rows ≡ sets (l .rows) (l .count) (take (128 - l .count) (r ∷ rs))
+    go : Dec (l .count < 160) → ((m : Listed) → m .count ≤ 160 → addAll m ts .rows ≡ sets (m .rows) (m .count) (take (160 - m .count) ts))
+        → addAll l (t ∷ ts) .rows ≡ sets (l .rows) (l .count) (take (160 - l .count) (t ∷ ts))
     go (yes k) ih =
-        let z : suc (128 - suc (l .count)) ≡ 128 - l .count = omega arith in
-        ap (λ b. addAll (addIf b l r) rs .rows) (lt-ltb (l .count) 128 k)
-        ∙ ih (record { rows = set (l .rows) (l .count) r; count = suc (l .count) }) (omega arith)
-        ∙ ap (λ n. sets (l .rows) (l .count) (take n (r ∷ rs))) z
+        let z : suc (160 - suc (l .count)) ≡ 160 - l .count = omega arith in
+        ap (λ b. addAll (addIf b l t) ts .rows) (lt-ltb (l .count) 160 k)
+        ∙ ih (record { rows = set (l .rows) (l .count) t; count = suc (l .count) }) (omega arith)
+        ∙ ap (λ n. sets (l .rows) (l .count) (take n (t ∷ ts))) z
     go (no k) ih =
-        let z : 128 - l .count ≡ 0 = omega arith in
-        ap (λ b. addAll (addIf b l r) rs .rows) (le-ltb (l .count) 128 (omega arith))
+        let z : 160 - l .count ≡ 0 = omega arith in
+        ap (λ b. addAll (addIf b l t) ts .rows) (le-ltb (l .count) 160 (omega arith))
         ∙ ih l h
-        ∙ ap (λ n. sets (l .rows) (l .count) (take n rs)) z
-        ∙ ap (λ n. sets (l .rows) (l .count) (take n (r ∷ rs))) (sym z)
+        ∙ ap (λ n. sets (l .rows) (l .count) (take n ts)) z
+        ∙ ap (λ n. sets (l .rows) (l .count) (take n (t ∷ ts))) (sym z)
 
 -- one list behind another
-add-append : (l : Listed) (xs ys : List Rule) → addAll l (xs ++ ys) ≡ addAll (addAll l xs) ys
+add-append : (l : Listed) (xs ys : List Test) → addAll l (xs ++ ys) ≡ addAll (addAll l xs) ys
 unfolding addAll
 add-append l [] ys = refl
-add-append l (x ∷ xs) ys = add-append (addIf (ltb (l .count) 128) l x) xs ys
+add-append l (x ∷ xs) ys = add-append (addIf (ltb (l .count) 160) l x) xs ys
 
 -- an array of one value, with a list laid over its start
 take-replicate : {A : Type 0} (d : A) (n m : ℕ) → n ≤ m → take n (replicate m d) ≡ replicate n d
@@ -195,101 +121,175 @@ laid-over d [] (suc n) m h = take-replicate d (suc n) m h
 laid-over d (x ∷ xs) zero m h = refl
 laid-over d (x ∷ xs) (suc n) m h = ap (λ r. x ∷ r) (laid-over d xs n m (omega arith))
 
--- the loop over the nodes: what is still to come
-pub record Planning (all : List Rule) (o : List ℕ) (listed : Listed) (ends : List ℕ) (i : ℕ) : Type 0 where
-  pub within : i ≤ length o
-  pub few : length o ≤ 64
-  pub counted : listed .count ≤ 128
-  pub held : length ends ≡ 64
-  pub same : addAll noneListed (listedBy all o) ≡ addAll listed (listedBy all (drop i o))
-  pub marked : padded 64 0 (endsFrom 0 all o) ≡ sets ends i (endsFrom (listed .count) all (drop i o))
-
--- the ends at the start, one more, and no more
-pub ends-length : (n : ℕ) (all : List Rule) (o : List ℕ) → length (endsFrom n all o) ≡ length o
+-- where tests end: as many places as nodes
+pub ends-length : (n : ℕ) (all : List Test) (o : List ℕ) → length (endsFrom n all o) ≡ length o
 unfolding endsFrom
 ends-length n all [] = refl
-ends-length n all (k ∷ o) = ap suc (ends-length (min 128 (n + length (groupOf all k))) all o)
+ends-length n all (k ∷ o) = ap suc (ends-length (min 160 (n + length (rowsFor all k))) all o)
 
-ends-start : (all : List Rule) (o : List ℕ) → length o ≤ 64 → padded 64 0 (endsFrom 0 all o) ≡ sets (replicate 64 0) 0 (endsFrom 0 all o)
-unfolding padded
-ends-start all o h =
-    let vs = endsFrom 0 all o in
-    ap (λ r. vs ++ r) (sym (drop-replicate 0 (length vs) 64))
-    ∙ ap (λ n. vs ++ drop n (replicate 64 0)) (sym (zero-add (length vs)))
-    ∙ sym (sets-eq vs (replicate 64 0) 0 (omega (arith, ends-length 0 all o)))
-
-ends-more : (ends : List ℕ) (i n : ℕ) (all : List Rule) (k : ℕ) (o : List ℕ) (m : ℕ) → min 128 (n + length (groupOf all k)) ≡ m
+ends-more : (ends : List ℕ) (i n : ℕ) (all : List Test) (k : ℕ) (o : List ℕ) (m : ℕ) → min 160 (n + length (rowsFor all k)) ≡ m
     → sets ends i (endsFrom n all (k ∷ o)) ≡ sets (set ends i m) (suc i) (endsFrom m all o)
 unfolding endsFrom
 ends-more ends i n all k o m e = ap (λ m. sets (set ends i m) (suc i) (endsFrom m all o)) e
 
-ends-none : (ends : List ℕ) (i n : ℕ) (all : List Rule) → sets ends i (endsFrom n all []) ≡ ends
+ends-none : (ends : List ℕ) (i n : ℕ) (all : List Test) → sets ends i (endsFrom n all []) ≡ ends
 unfolding endsFrom
 ends-none ends i n all = refl
 
--- the rules of one node more, and all of them
-listed-more : (l : Listed) (all : List Rule) (k : ℕ) (o : List ℕ) → addAll l (listedBy all (k ∷ o)) ≡ addAll (addAll l (groupOf all k)) (listedBy all o)
+-- the tests of one node more, and all of them
+listed-more : (l : Listed) (all : List Test) (k : ℕ) (o : List ℕ) → addAll l (listedBy all (k ∷ o)) ≡ addAll (addAll l (rowsFor all k)) (listedBy all o)
 unfolding listedBy joined
-listed-more l all k o = add-append l (groupOf all k) (joined (groupOf all) o)
+listed-more l all k o = add-append l (rowsFor all k) (joined (rowsFor all) o)
 
-rows-done : (all : List Rule) (o : List ℕ) (l : Listed) → addAll noneListed (listedBy all o) ≡ addAll l (listedBy all []) → take 128 (listedBy all o ++ replicate 128 noRule) ≡ l .rows
-unfolding listedBy joined addAll
+rows-done : (all : List Test) (o : List ℕ) (l : Listed) → addAll noneListed (listedBy all o) ≡ addAll l (listedBy all []) → take 160 (listedBy all o ++ replicate 160 noTest) ≡ l .rows
+unfolding listedBy joined addAll padded
 rows-done all o l e =
-    let rs = listedBy all o in
-    laid-over noRule rs 128 128 (omega arith)
-    ∙ ap (λ n. take 128 rs ++ drop n (replicate 128 noRule)) (sym (zero-add (length (take 128 rs))))
-    ∙ sym (sets-eq (take 128 rs) (replicate 128 noRule) 0 (rw length-take (omega arith)))
-    ∙ sym (add-rows noneListed rs (omega arith))
+    let ts = listedBy all o in
+    laid-over noTest ts 160 160 (omega arith)
+    ∙ ap (λ r. take 160 ts ++ r) (drop-replicate noTest (length (take 160 ts)) 160)
+    ∙ sym (laid 160 noTest (take 160 ts) (rw length-take (omega arith)))
+    ∙ sym (add-rows noneListed ts (omega arith))
     ∙ ap (λ l. l .rows) e
 
-pub planning-start : (all : List Rule) (order : List ℕ) (nodes : ℕ) (listed : Listed) → nodes ≤ 64 → nodes ≤ length order → listed ≡ noneListed
-    → Planning all (take nodes order) listed (replicate 64 0) 0
-planning-start all order nodes listed h g e = rw e (record {
-  within = omega arith;
-  few = rw length-take (omega arith);
-  counted = omega arith;
-  held = refl;
-  same = refl;
-  marked = ends-start all (take nodes order) (rw length-take (omega arith));
-})
+-- what holds at every turn: of the tests and of the order so many are asked for
+pub record Sized (tests : Tests) (order : List ℕ) (nodes last top : ℕ) : Type 0 where
+  pub low : last ≡ min (tests .count) 160
+  pub few : top ≡ min nodes 64
+  pub long : length (tests .rows) ≡ 160
+  pub full : length order ≡ 64
 
-module _ (all : List Rule) (order : List ℕ) (nodes : ℕ) (listed : Listed) (ends : List ℕ) (i : ℕ) (inv : Planning all (take nodes order) listed ends i) where
-  -- the node at the place
-  next-node : i < nodes → nodes ≤ length order → drop i (take nodes order) ≡ getD order i 0 ∷ drop (suc i) (take nodes order)
-  next-node h g = drop-cons (take nodes order) i 0 (rw length-take (omega arith)) ∙ ap (λ x. x ∷ drop (suc i) (take nodes order)) (getD-take nodes order i 0 h)
+-- the loop over the nodes: what is still to come
+pub record Planning (all : List Test) (o : List ℕ) (listed : Listed) (ends : List ℕ) (i : ℕ) : Type 0 where
+  pub within : i ≤ length o
+  pub counted : listed .count ≤ 160
+  pub same : addAll noneListed (listedBy all o) ≡ addAll listed (listedBy all (drop i o))
+  pub marked : padded 64 0 (endsFrom 0 all o) ≡ sets ends i (endsFrom (listed .count) all (drop i o))
 
-  module _ (after : Listed) (is : after ≡ addAll listed (groupOf all (getD order i 0))) where
-    planned-count : after .count ≡ min 128 (listed .count + length (groupOf all (getD order i 0)))
-    planned-count = ap (λ l. l .count) is ∙ add-count listed (groupOf all (getD order i 0)) (inv .counted)
+-- what is listed behind the tests of a node that are left from place j on
+abbrev pub then : List Test → List Test → ℕ → ℕ → ℕ → Listed
+then all rows count k j = addAll (record { rows = rows; count = count }) (rowsFor (drop j all) k)
 
-    pub planned-fits : Fits w8 (after .count)
-    planned-fits = omega (arith, planned-count)
-
-    pub planned-more : i < nodes → nodes ≤ length order → (j : ℕ) → j ≡ i + 1 → Planning all (take nodes order) after (set ends i (after .count)) j
-    planned-more h g j z = rw z (record {
-      within = rw length-take (omega arith);
-      few = inv .few;
-      counted = omega (arith, planned-count);
-      held = length-set ends i (after .count) ∙ inv .held;
-      same =
-          inv .same
-          ∙ ap (λ o. addAll listed (listedBy all o)) (next-node h g)
-          ∙ listed-more listed all (getD order i 0) (drop (suc i) (take nodes order))
-          ∙ ap (λ l. addAll l (listedBy all (drop (suc i) (take nodes order)))) (sym is)
-          ∙ ap (λ n. addAll after (listedBy all (drop n (take nodes order)))) (sym (add-one i));
+-- a node's tests put down
+node-done : (all : List Test) (o : List ℕ) (listed : Listed) (ends : List ℕ) (i k : ℕ) → Planning all o listed ends i → i < length o → drop i o ≡ k ∷ drop (suc i) o
+    → Planning all o (addAll listed (rowsFor all k)) (set ends i (addAll listed (rowsFor all k) .count)) (suc i)
+node-done all o listed ends i k inv h next =
+    let count = add-count listed (rowsFor all k) (inv .counted) in
+    record {
+      within = h;
+      counted = omega (arith, count);
+      same = inv .same ∙ ap (λ o. addAll listed (listedBy all o)) next ∙ listed-more listed all k (drop (suc i) o);
       marked =
           inv .marked
-          ∙ ap (λ o. sets ends i (endsFrom (listed .count) all o)) (next-node h g)
-          ∙ ends-more ends i (listed .count) all (getD order i 0) (drop (suc i) (take nodes order)) (after .count) (sym planned-count)
-          ∙ ap (λ n. sets (set ends i (after .count)) n (endsFrom (after .count) all (drop n (take nodes order)))) (sym (add-one i));
-    })
+          ∙ ap (λ o. sets ends i (endsFrom (listed .count) all o)) next
+          ∙ ends-more ends i (listed .count) all k (drop (suc i) o) (addAll listed (rowsFor all k) .count) (sym count);
+    }
 
-  pub planned : nodes ≤ length order → nodes ≤ i → record { rows = listed .rows; ends = ends } ≡ asPlan all (take nodes order)
-  unfolding asPlan
-  planned g h =
-      let none : drop i (take nodes order) ≡ [] = drop-of-length-le (take nodes order) {i = i} (rw length-take (omega arith)) in
-      ap₂ (λ (r : List Rule) (e : List ℕ). record { rows = r; ends = e })
-      (sym (rows-done all (take nodes order) listed (inv .same ∙ ap (λ o. addAll listed (listedBy all o)) none)))
-      (sym (inv .marked ∙ ap (λ o. sets ends i (endsFrom (listed .count) all o)) none ∙ ends-none ends i (listed .count) all))
+module _ (tests : Tests) (order : List ℕ) (nodes last top : ℕ) where
+  -- the tests and the nodes that are asked for
+  abbrev All : List Test
+  All = take last (tests .rows)
 
-pub ruleset planning = (nothing-listed, planning-start, planned-fits, planned-more, planned)
+  abbrev Nodes : List ℕ
+  Nodes = take top order
+
+  -- the loop over the nodes
+  pub record AtNode (rows : List Test) (ends : List ℕ) (count i : ℕ) : Type 0 where
+    pub sized : Sized tests order nodes last top
+    pub going : Planning All Nodes (record { rows = rows; count = count }) ends i
+
+  -- the loop over the tests, at the node k of place i
+  pub record AtRow (rows : List Test) (ends : List ℕ) (count i k j : ℕ) : Type 0 where
+    pub sized : Sized tests order nodes last top
+    pub within : j ≤ last
+    pub node : i < top
+    pub going : Planning All Nodes (then All rows count k j) (set ends i (then All rows count k j .count)) (suc i)
+
+  pub nodes-start : {B : Type 0} (f : Test → B) → length (map f (tests .rows)) ≡ 160 → length order ≡ 64 → last ≡ min (tests .count) 160 → top ≡ min nodes 64 → (t : Test) → t ≡ noTest
+      → AtNode (replicate 160 t) (replicate 64 0) 0 0
+  nodes-start f h l e g t n = rw n (record {
+    sized = record { low = e; few = g; long = sym (length-map (tests .rows) f) ∙ h; full = l };
+    going = record {
+      within = omega arith;
+      counted = omega arith;
+      same = refl;
+      marked = sym (laid 64 0 (endsFrom 0 All Nodes) (omega (arith, ends-length 0 All Nodes, length-take top order)));
+    };
+  })
+
+  module _ (rows : List Test) (ends : List ℕ) (count i : ℕ) (inv : AtNode rows ends count i) where
+    -- the node at the place
+    pub rows-start : i < top → AtRow rows ends count i (getD order i 0) 0
+    rows-start h =
+        let long : length Nodes ≡ top = length-take top order ∙ omega (arith, inv .sized .few, inv .sized .full) in
+        record {
+          sized = inv .sized;
+          within = omega arith;
+          node = h;
+          going = node-done All Nodes (record { rows = rows; count = count }) ends i (getD order i 0) (inv .going) (omega arith)
+              (drop-cons Nodes i 0 (omega arith) ∙ ap (λ x. x ∷ drop (suc i) Nodes) (getD-take top order i 0 h));
+        }
+
+    pub nodes-done : top ≤ i → record { rows = rows; ends = ends; order = order; nodes = nodes } ≡ asPlan (take (tests .count) (tests .rows)) order nodes
+    unfolding asPlan
+    nodes-done h =
+        let none : drop i Nodes ≡ [] = drop-of-length-le Nodes {i = i} (rw length-take (omega arith)) in
+        let all : All ≡ take (tests .count) (tests .rows) = ap (λ n. take n (tests .rows)) (inv .sized .low) ∙ take-low 160 (tests .count) (tests .rows) (inv .sized .long) in
+        let o : Nodes ≡ take nodes order = ap (λ n. take n order) (inv .sized .few) ∙ take-low 64 nodes order (inv .sized .full) in
+        ap₂ (λ (r : List Test) (e : List ℕ). record { rows = r; ends = e; order = order; nodes = nodes })
+        (sym (rows-done All Nodes (record { rows = rows; count = count }) (inv .going .same ∙ ap (λ o. addAll (record { rows = rows; count = count }) (listedBy All o)) none)))
+        (sym (inv .going .marked ∙ ap (λ o. sets ends i (endsFrom count All o)) none ∙ ends-none ends i count All))
+        ∙ ap₂ (λ (a : List Test) (o : List ℕ). record { rows = take 160 (listedBy a o ++ replicate 160 noTest); ends = padded 64 0 (endsFrom 0 a o); order = order; nodes = nodes }) all o
+
+  module _ (rows : List Test) (ends : List ℕ) (count i k j : ℕ) (inv : AtRow rows ends count i k j) where
+    -- the test at the place
+    next-row : (d : Test) → j < last → drop j All ≡ getD (tests .rows) j d ∷ drop (suc j) All
+    next-row d h = drop-cons All j d (rw length-take (omega (arith, inv .sized .low, inv .sized .long))) ∙ ap (λ x. x ∷ drop (suc j) All) (getD-take last (tests .rows) j d h)
+
+    -- what is listed then, otherwise said
+    then-as : (rows' : List Test) (count' j' : ℕ) → j' ≤ last → then All rows count k j ≡ then All rows' count' k j' → AtRow rows' ends count' i k j'
+    then-as rows' count' j' h e = record {
+      sized = inv .sized;
+      within = h;
+      node = inv .node;
+      going = subst (λ l. Planning All Nodes l (set ends i (l .count)) (suc i)) e (inv .going);
+    }
+
+    module _ (d : Test) (h : j < last) (b : Bool) (is : b ≡ (eqb (getD (tests .rows) j d .node) k && ltb count 160)) where
+      pub row-passed : not b ≡ true → (n : ℕ) → n ≡ j + 1 → AtRow rows ends count i k n
+      row-passed t n z = rw (z, add-one) (then-as rows count (suc j) h
+          (ap (λ ts. addAll (record { rows = rows; count = count }) (rowsFor ts k)) (next-row d h)
+          ∙ add-passed (getD (tests .rows) j d) (drop (suc j) All) k (record { rows = rows; count = count }) (sym is ∙ not-true b t)))
+
+      pub row-room : not b ≡ false → count < 160
+      row-room t = add-put (getD (tests .rows) j d) [] k (record { rows = rows; count = count }) (sym is ∙ not-false b t) .0
+
+      pub row-size : not b ≡ false → (n : ℕ) → n ≡ count * 10 → Fits w64 n
+      row-size t n z = omega (arith, row-room t)
+
+      pub row-fits : not b ≡ false → (n : ℕ) → n ≡ count + 1 → Fits w64 n
+      row-fits t n z = omega (arith, row-room t)
+
+      pub row-put : not b ≡ false → (n m : ℕ) → n ≡ j + 1 → m ≡ count + 1 → AtRow (set rows count (getD (tests .rows) j d)) ends m i k n
+      row-put t n m z y = rw (z, y, add-one count, add-one) (then-as (set rows count (getD (tests .rows) j d)) (suc count) (suc j) h
+          (ap (λ ts. addAll (record { rows = rows; count = count }) (rowsFor ts k)) (next-row d h)
+          ∙ add-put (getD (tests .rows) j d) (drop (suc j) All) k (record { rows = rows; count = count }) (sym is ∙ not-false b t) .1))
+
+    -- no test left
+    then-none : last ≤ j → then All rows count k j ≡ record { rows = rows; count = count }
+    unfolding addAll rowsFor keep
+    then-none h = ap (λ ts. addAll (record { rows = rows; count = count }) (rowsFor ts k)) (drop-of-length-le All {i = j} (rw length-take (omega arith)))
+
+    module _ (h : last ≤ j) where
+      listed-now : Planning All Nodes (record { rows = rows; count = count }) (set ends i count) (suc i)
+      listed-now = subst (λ l. Planning All Nodes l (set ends i (l .count)) (suc i)) (then-none h) (inv .going)
+
+      pub rows-fit : Fits w8 count
+      rows-fit = omega (arith, listed-now .counted)
+
+      pub rows-place : i < 64
+      rows-place = omega (arith, inv .sized .few, inv .node)
+
+      pub rows-next : (n : ℕ) → n ≡ i + 1 → AtNode rows (set ends i count) count n
+      rows-next n z = rw (z, add-one) (record { sized = inv .sized; going = listed-now })
+
+pub ruleset planning = (nodes-start, rows-start, nodes-done, row-passed, row-room, row-size, row-fits, row-put, rows-fit, rows-place, rows-next)

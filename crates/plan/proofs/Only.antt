@@ -1,13 +1,6 @@
--- No second answer fits: the contract of the public function determines what it answers.
-use Prim.Native.Nat.{ℕ}
-use mathlib.Core.Path.{_≡_}
-use mathlib.Core.List.{List}
-use lib.ListN.{take}
-use Rattle.theory.specs.Determined.{only}
-use Rattle.rules.specs.declared.Rules.{Rules}
-use Rattle.plan.specs.declared.Plan.{Plan}
-use Rattle.plan.specs.Plan.{asPlan}
+-- No second answer fits: the contracts that the public functions declare determine what they answer.
+use Rattle.theory.specs.Determined.{Determines, only}
+use Rattle.plan.proofs.plan_tests.Reads as PlanTests
 
-pub plan-rules-only : (rules : Rules) (order : List ℕ) (nodes : ℕ) (r q : Plan) → r ≡ asPlan (take (rules .count) (rules .rows)) (take nodes order)
-    → q ≡ asPlan (take (rules .count) (rules .rows)) (take nodes order) → r ≡ q
-plan-rules-only rules order nodes r q = only
+pub plan-tests-only : Determines PlanTests.Learnt
+plan-tests-only κs a r q s t = only

@@ -1,4 +1,4 @@
--- The rules listed by a testing order:
+-- The tests listed by a testing order:
 pub mod Plan
--- Rules put one after another:
+-- Tests put one after another:
 pub mod Listed

@@ -1,21 +1,32 @@
 -- No second answer fits the contracts, and no other content of the lent space.
-use Prim.Native.Nat.{ℕ}
-use mathlib.Core.Path.{_≡_}
-use mathlib.Core.List.{List}
-use Rattle.meaning.specs.Desk.{refusalText}
-use Rattle.space.specs.Answers.{Wrote}
-use Rattle.space.proofs.Only.{wrote-only}
-use Rattle.print.specs.Lines.{startText, patternText, manyText}
+use denote.Ref.{now}
+use Rattle.theory.specs.Determined.{Determines, Settles, only}
+use Rattle.print.proofs.put_refusal.Reads as PutRefusal
+use Rattle.print.proofs.put_start.Reads as PutStart
+use Rattle.print.proofs.put_pattern.Reads as PutPattern
+use Rattle.print.proofs.put_many.Reads as PutMany
 
-module _ (o o1 o2 : List ℕ) (r q : ℕ) where
-  pub put-refusal-only : (n p l : ℕ) → Wrote 0 (refusalText n p l) o o1 r → Wrote 0 (refusalText n p l) o o2 q → (r ≡ q) × (o1 ≡ o2)
-  put-refusal-only n p l = wrote-only 0 (refusalText n p l) o o1 o2 r q
+pub put-refusal-only : Determines PutRefusal.Learnt
+put-refusal-only κs a r q s t h g = only (h .next) (g .next)
 
-  pub put-start-only : (at n t : ℕ) → Wrote at (startText n t) o o1 r → Wrote at (startText n t) o o2 q → (r ≡ q) × (o1 ≡ o2)
-  put-start-only at n t = wrote-only at (startText n t) o o1 o2 r q
+-- the lent space is the first parameter
+pub put-refusal-space-only : Settles PutRefusal.Learnt (λ κs r s. now (s .0))
+put-refusal-space-only κs a r q s t h g = only (h .space) (g .space)
 
-  pub put-pattern-only : (at p : ℕ) → Wrote at (patternText p) o o1 r → Wrote at (patternText p) o o2 q → (r ≡ q) × (o1 ≡ o2)
-  put-pattern-only at p = wrote-only at (patternText p) o o1 o2 r q
+pub put-start-only : Determines PutStart.Learnt
+put-start-only κs a r q s t h g = only (h .next) (g .next)
 
-  pub put-many-only : (at : ℕ) → Wrote at manyText o o1 r → Wrote at manyText o o2 q → (r ≡ q) × (o1 ≡ o2)
-  put-many-only at = wrote-only at manyText o o1 o2 r q
+pub put-start-space-only : Settles PutStart.Learnt (λ κs r s. now (s .0))
+put-start-space-only κs a r q s t h g = only (h .space) (g .space)
+
+pub put-pattern-only : Determines PutPattern.Learnt
+put-pattern-only κs a r q s t h g = only (h .next) (g .next)
+
+pub put-pattern-space-only : Settles PutPattern.Learnt (λ κs r s. now (s .0))
+put-pattern-space-only κs a r q s t h g = only (h .space) (g .space)
+
+pub put-many-only : Determines PutMany.Learnt
+put-many-only κs a r q s t h g = only (h .next) (g .next)
+
+pub put-many-space-only : Settles PutMany.Learnt (λ κs r s. now (s .0))
+put-many-space-only κs a r q s t h g = only (h .space) (g .space)

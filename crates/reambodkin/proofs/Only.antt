@@ -1,22 +1,18 @@
 -- No second answer fits the contracts of the doors, and no other content of the lent space.
-use Prim.Native.Nat.{ℕ}
-use mathlib.Core.Path.{_≡_}
-use mathlib.Core.List.{List}
-use lib.ListN.{length}
-use Rattle.meaning.specs.Doors.{stepReply, stepSpace, outlookReply, outlookSpace}
-use Rattle.theory.specs.Determined.{only}
-use Rattle.case.specs.declared.Reply.{Reply}
-use Rattle.case.specs.Answers.{asReply}
+use denote.Ref.{now}
+use Rattle.theory.specs.Determined.{Determines, Settles, only}
+use Rattle.reambodkin.proofs.step.Reads as Step
+use Rattle.reambodkin.proofs.outlook.Reads as Outlook
 
-module _ (s c e lent : List ℕ) where
-  pub step-answer-only : (r q : Reply) → r ≡ asReply (stepReply s c e (length lent)) → q ≡ asReply (stepReply s c e (length lent)) → r ≡ q
-  step-answer-only r q = only
+pub step-answer-only : Determines Step.Learnt
+step-answer-only κs a r q s t h g = only (h .0) (g .0)
 
-  pub step-space-only : (now then : List ℕ) → now ≡ stepSpace s c e lent → then ≡ stepSpace s c e lent → now ≡ then
-  step-space-only now then = only
+-- the lent space is the fourth parameter
+pub step-space-only : Settles Step.Learnt (λ κs r s. now (s .1 .1 .1 .0))
+step-space-only κs a r q s t h g = only (h .1) (g .1)
 
-  pub outlook-answer-only : (r q : Reply) → r ≡ asReply (outlookReply s c e (length lent)) → q ≡ asReply (outlookReply s c e (length lent)) → r ≡ q
-  outlook-answer-only r q = only
+pub outlook-answer-only : Determines Outlook.Learnt
+outlook-answer-only κs a r q s t h g = only (h .0) (g .0)
 
-  pub outlook-space-only : (now then : List ℕ) → now ≡ outlookSpace s c e lent → then ≡ outlookSpace s c e lent → now ≡ then
-  outlook-space-only now then = only
+pub outlook-space-only : Settles Outlook.Learnt (λ κs r s. now (s .1 .1 .1 .0))
+outlook-space-only κs a r q s t h g = only (h .1) (g .1)

@@ -2,19 +2,26 @@
 ghost use mathlib.Core.Path.{_≡_};
 ghost use lib.ListN.{length};
 ghost use Rattle.meaning.specs.Doors.{stepReply, stepSpace, outlookReply, outlookSpace};
-ghost use Rattle.case.specs.Answers.{asReply};
-use case::Reply;
+ghost use Rattle.reply.specs.Answers.{asReply};
+use reply::Reply;
 
 // One step: the next card at the start of `out`, how long it is, and the tasks started; or a refusal, and `out` is untouched.
 pub fn step<'a>(sheet: &[u8], card: &'a [u8], event: &'a [u8], out: &mut [u8]) -> Reply
     ensures answer { λ r. ⌜ r ≡ asReply (stepReply (now (sheet .entry)) (now (card .entry)) (now (event .entry)) (length (now (out .entry)))) ⌝ }
     ensures space { λ r. ⌜ now (out .exit) ≡ stepSpace (now (sheet .entry)) (now (card .entry)) (now (event .entry)) (now (out .entry)) ⌝ }
 {
-    let read = case::read_case(sheet, card, event);
-    if read.number != 0 {
-        return case::refusal(read.number, read.paper, read.line);
+    let accepted = accepted::accept(sheet);
+    if accepted.number != 0 {
+        return reply::refusal(accepted.number, reply::SHEET, accepted.line);
     }
-    next::step_case(read, card, event, out)
+    let heads = accepted.heads;
+    let told = case::read_told(heads, card, event);
+    if told.number != 0 {
+        return reply::refusal(told.number, told.paper, told.line);
+    }
+    let given = told.card;
+    let happening = told.happening;
+    next::step_case(accepted, given, happening, card, event, out)
 }
 
 // The outlook: every pattern that may still come, ascending, at the start of `out`, and how many there are; or a refusal, and `out` is untouched.
@@ -22,14 +29,17 @@ pub fn outlook(sheet: &[u8], card: &[u8], event: &[u8], out: &mut [u32]) -> Repl
     ensures answer { λ r. ⌜ r ≡ asReply (outlookReply (now (sheet .entry)) (now (card .entry)) (now (event .entry)) (length (now (out .entry)))) ⌝ }
     ensures space { λ r. ⌜ now (out .exit) ≡ outlookSpace (now (sheet .entry)) (now (card .entry)) (now (event .entry)) (now (out .entry)) ⌝ }
 {
-    let read = case::read_case(sheet, card, event);
-    if read.number != 0 {
-        return case::refusal(read.number, read.paper, read.line);
+    let accepted = accepted::accept(sheet);
+    if accepted.number != 0 {
+        return reply::refusal(accepted.number, reply::SHEET, accepted.line);
     }
-    let accepted = read.sheet;
-    let given = read.card;
-    let before = given.marks;
-    let values = read.values;
-    let happening = read.happening;
-    outlook::outlook_case(accepted, happening.event, values, before, out)
+    let heads = accepted.heads;
+    let told = case::read_told(heads, card, event);
+    if told.number != 0 {
+        return reply::refusal(told.number, told.paper, told.line);
+    }
+    let given = told.card;
+    let happening = told.happening;
+    let moment = moment::moment_of(given, happening);
+    outlook::outlook_case(accepted, moment, out)
 }

@@ -1,7 +1,6 @@
 -- For callers: what the answer of `read_rule` tells of the line, whatever its number.
 use Prim.Native.Nat.{ℕ, suc, _+_, _≤_}
-use mathlib.Core.Path.{_≡_, refl, sym, _∙_, ap}
-use mathlib.Core.Bool.{cond}
+use mathlib.Core.Path.{_≡_, sym, _∙_, ap}
 use mathlib.Core.List.{List, map}
 use lib.ListN.{length, drop}
 use Rattle.meaning.specs.Reading.{got, wrong, Reader}
@@ -9,15 +8,14 @@ use Rattle.meaning.specs.Name.{Name}
 use Rattle.meaning.specs.Sheet as M
 use Rattle.meaning.specs.Sheet.{leavesOf, leaves}
 use Rattle.meaning.specs.ReadSheet.{trigger, ruleRow}
-use Rattle.meaning.specs.Dependency.{up, down, node, consequent}
 use Rattle.theory.specs.Readers.{after-after}
 use Rattle.theory.specs.Answered.{answered-found, answered-wrong}
 use Rattle.text.specs.Packed.{named}
-use Rattle.trigger.specs.Answers.{change, begun, isPlus}
+use Rattle.trigger.specs.Answers.{change, begun}
 use Rattle.rule.specs.declared.Row.{Row}
 use Rattle.rule.specs.declared.RowRead.{RowRead}
 use Rattle.rule.specs.declared.RowRead.the-variants as R
-use Rattle.rule.specs.Answers.{wordsOf, asRule, nodeOf, ending, row, rowAt, asRow}
+use Rattle.rule.specs.Answers.{wordsOf, asRule, ending, row, rowAt, asRow}
 use Rattle.rule.proofs.Rows as Rows
 
 -- the meaning's reader, in the parts of the code
@@ -44,12 +42,3 @@ module _ (fs es ss s : List ℕ) (top leaves : ℕ) (few : leaves ≤ 512) (c : 
       let f = answered-found (Rows.rowKind top leaves) (Rows.row-ends fs es ss leaves few s) c is (a .bytes) (ap (Rows.rowKind top leaves .size) e) in
       let z : R.At a ≡ rowAt top leaves (f .value) (a .bytes) = sym e ∙ f .same in
       record { value = f .value; few = f .holds; within = f .within; reads = f .reads; rule-is = cc; top-is = cc; leaves-is = cc }
-
--- the node that a rule's row tells is that of its consequent
-pub node-same : (top : ℕ) (r : M.Rule) → nodeOf (asRule top r) ≡ consequent r
-unfolding asRule consequent
-node-same top r = go (r .sign)
-  where
-    go : (g : M.Sign) → cond (isPlus g) (up (r .status)) (down (r .status)) ≡ node g (r .status)
-    go M.plus = refl
-    go M.minus = refl

@@ -16,7 +16,7 @@ use Rattle.text.specs.Packed.{named}
 use Rattle.trigger.specs.declared.Start.{Start}
 use Rattle.trigger.specs.declared.StartRead.{StartRead}
 use Rattle.trigger.specs.declared.StartRead.the-variants as S
-use Rattle.trigger.specs.Answers.{Begun, begun, startAt, asStart, isPlus, asTrigger}
+use Rattle.trigger.specs.Answers.{Begun, begun, startAt, asStart}
 use Rattle.trigger.proofs.Callers.{startKind, begun-built}
 use Rattle.item.specs.declared.Place.{Place}
 use Rattle.item.specs.declared.CondRead.{CondRead}

@@ -12,14 +12,12 @@ use Rattle.meaning.specs.Condition.{Cond}
 use Rattle.meaning.specs.ReadCondition.{condition}
 use Rattle.meaning.specs.Sheet as M
 use Rattle.meaning.specs.Sheet.{leavesOf}
-use Rattle.meaning.specs.Dependency.{up, down}
 use Rattle.theory.specs.Answer.{asRead}
 use Rattle.verdict.specs.Flat.{words}
 use Rattle.trigger.specs.declared.Trigger.the-variants.{Always}
 use Rattle.trigger.specs.Answers.{isPlus, asTrigger, begun}
 use Rattle.item.specs.Answers.{storedBy}
 use Rattle.rule.specs.declared.Rule.{Rule}
-use Rattle.rule.specs.declared.Row.{Row}
 use Rattle.rule.specs.declared.RowRead.{RowRead}
 use Rattle.rule.specs.declared.RowRead.the-variants as R
 
@@ -37,10 +35,6 @@ asRule top r = record {
   from = top;
   to = top + length (wordsOf (r .condition));
 }
-
--- the node that a rule sets
-abbrev pub nodeOf : Rule → ℕ
-nodeOf r = cond (r .plus) (up (r .status)) (down (r .status))
 
 -- a row that is no rule
 abbrev pub noRule : Rule

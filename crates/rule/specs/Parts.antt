@@ -14,7 +14,7 @@ use Rattle.trigger.specs.declared.Start.{Start}
 use Rattle.item.specs.declared.Place.{Place}
 use Rattle.item.specs.declared.CondRead.{CondRead}
 use Rattle.item.specs.Answers.{asPlace}
-use Rattle.rule.specs.Answers.{wordsOf, ending}
+use Rattle.rule.specs.Answers.{wordsOf}
 use Rattle.rule.specs.declared.Row.{Row}
 
 -- the end of a line where no ` if ` stands, and where it does

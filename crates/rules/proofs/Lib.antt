@@ -2,3 +2,5 @@
 pub mod Scan
 pub mod Whole
 pub mod Callers
+-- No second answer fits:
+pub mod Only

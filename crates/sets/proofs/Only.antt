@@ -2,10 +2,12 @@
 use Prim.Native.Nat.{ℕ}
 use mathlib.Core.Path.{_≡_, sym, _∙_, ap}
 use mathlib.Core.List.{List, _++_}
-use lib.ListN.{take, drop}
-use Rattle.meaning.specs.Outlook.{insert}
-use Rattle.theory.specs.Determined.{only}
+use lib.ListN.{drop}
+use denote.Ref.{now}
+use Rattle.theory.specs.Determined.{Determines, Settles, only}
 use Rattle.sets.specs.Front.{Front}
+use Rattle.sets.proofs.insert.Reads as Insert
+use Rattle.sets.proofs.copy_front.Reads as CopyFront
 
 -- whatever the list
 module _ {l b a c : List ℕ} {n m : ℕ} (f : Front l n b a) (g : Front l m b c) where
@@ -15,11 +17,13 @@ module _ {l b a c : List ℕ} {n m : ℕ} (f : Front l n b a) (g : Front l m b c
   pub front-space-only : a ≡ c
   front-space-only = only (f .list) (g .list ∙ ap (λ k. l ++ drop k b) (sym front-count-only))
 
-pub insert-count-only : (s : List ℕ) (n v r q : ℕ) (t u : List ℕ) → Front (insert v (take n s)) r s t → Front (insert v (take n s)) q s u → r ≡ q
-insert-count-only s n v r q t u = front-count-only
+pub insert-count-only : Determines Insert.Learnt
+insert-count-only κs a r q s t h g = only (h .count) (g .count)
 
-pub insert-space-only : (s : List ℕ) (n v r q : ℕ) (t u : List ℕ) → Front (insert v (take n s)) r s t → Front (insert v (take n s)) q s u → t ≡ u
-insert-space-only s n v r q t u = front-space-only
+-- the lent space is the first parameter
+pub insert-space-only : Settles Insert.Learnt (λ κs r s. now (s .0))
+insert-space-only κs a r q s t h g = front-space-only h g
 
-pub copy-front-only : (src s : List ℕ) (n : ℕ) (t u : List ℕ) → t ≡ take n src ++ drop n s → u ≡ take n src ++ drop n s → t ≡ u
-copy-front-only src s n t u = only
+-- the lent space is the third parameter
+pub copy-front-only : Settles CopyFront.Learnt (λ κs r s. now (s .1 .1 .0))
+copy-front-only κs a r q s t = only

@@ -5,41 +5,41 @@ use mathlib.Core.List.{List, [], _++_, map, append-assoc, append-nil}
 use lib.ListN.{length, take, drop, length-map, length-append}
 use native.Mathlib.Omega.{arith}
 use Rattle.meaning.specs.Name.{Name}
-use Rattle.meaning.specs.Sheet.{Sheet, Event, Status, statuses, eventNames, statusNames}
-use Rattle.theory.specs.Formed.{Well}
+use Rattle.meaning.specs.Sheet.{Heads, Event, Status, statuses, eventNames, statusNames}
+use Rattle.theory.specs.Formed.{WellHeads}
 use Rattle.text.specs.Packed.{named}
 use Rattle.tables.specs.Heads.{allNames, asHeads, Again}
 use Rattle.tables.proofs.Padded.{names-part}
 use Rattle.tables.proofs.Tables.{again-each, all-good}
 
-module _ (sh : Sheet) (well : Well sh) where
+module _ (hd : Heads) (well : WellHeads hd) where
   abbrev es : List Name
-  es = eventNames (sh .events)
+  es = eventNames (hd .events)
 
   abbrev ss : List Name
-  ss = statusNames (statuses sh)
+  ss = statusNames (statuses hd)
 
   -- all names are told by their numbers
-  again : Again (sh .fields ++ es ++ ss)
+  again : Again (hd .fields ++ es ++ ss)
   unfolding allNames
-  again = again-each (allNames sh) (all-good sh well)
+  again = again-each (allNames hd) (all-good hd well)
 
-  events-count : length es ≡ length (sh .events)
+  events-count : length es ≡ length (hd .events)
   unfolding eventNames
-  events-count = length-map (sh .events) (λ (e : Event). e .name)
+  events-count = length-map (hd .events) (λ (e : Event). e .name)
 
   -- the three parts of the table
-  pub fields-named : map named (take (asHeads sh .fields) (asHeads sh .names)) ≡ sh .fields
+  pub fields-named : map named (take (asHeads hd .fields) (asHeads hd .names)) ≡ hd .fields
   unfolding asHeads allNames
-  fields-named = rw (append-assoc (sh .fields) es ss) (names-part 64 [] (sh .fields) (es ++ ss) (rw (append-assoc (sh .fields) es ss) at again))
+  fields-named = rw (append-assoc (hd .fields) es ss) (names-part 64 [] (hd .fields) (es ++ ss) (rw (append-assoc (hd .fields) es ss) at again))
 
-  pub events-named : map named (take (asHeads sh .events) (drop (asHeads sh .fields) (asHeads sh .names))) ≡ es
+  pub events-named : map named (take (asHeads hd .events) (drop (asHeads hd .fields) (asHeads hd .names))) ≡ es
   unfolding asHeads allNames
-  events-named = rw (← events-count) (names-part 64 (sh .fields) es ss again)
+  events-named = rw (← events-count) (names-part 64 (hd .fields) es ss again)
 
-  pub statuses-named : (k : ℕ) → k ≡ asHeads sh .stages + asHeads sh .miles → map named (take k (drop (asHeads sh .fields + asHeads sh .events) (asHeads sh .names))) ≡ ss
+  pub statuses-named : (k : ℕ) → k ≡ asHeads hd .stages + asHeads hd .miles → map named (take k (drop (asHeads hd .fields + asHeads hd .events) (asHeads hd .names))) ≡ ss
   unfolding asHeads allNames statusNames statuses
   statuses-named k e =
-      let n : k ≡ length ss = omega (arith, length-map (statuses sh) (λ (s : Status). s .name), length-append (sh .stages) (sh .miles)) in
-      let m : length (sh .fields) + length (sh .events) ≡ length (sh .fields ++ es) = omega (arith, length-append (sh .fields) es, events-count) in
-      rw (n, m, ← append-nil (sh .fields ++ es ++ ss)) (names-part 64 (sh .fields ++ es) ss [] (rw (append-nil (sh .fields ++ es ++ ss)) again))
+      let n : k ≡ length ss = omega (arith, length-map (statuses hd) (λ (s : Status). s .name), length-append (hd .stages) (hd .miles)) in
+      let m : length (hd .fields) + length (hd .events) ≡ length (hd .fields ++ es) = omega (arith, length-append (hd .fields) es, events-count) in
+      rw (n, m, ← append-nil (hd .fields ++ es ++ ss)) (names-part 64 (hd .fields ++ es) ss [] (rw (append-nil (hd .fields ++ es ++ ss)) again))

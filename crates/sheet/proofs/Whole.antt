@@ -11,17 +11,17 @@ use Rattle.meaning.specs.Limits.{sheetBytes}
 use Rattle.meaning.specs.Refusal.{taken}
 use Rattle.meaning.specs.Reading.{Got, got, wrong, Reader, paper}
 use Rattle.meaning.specs.Sheet as M
-use Rattle.meaning.specs.Sheet.{statuses, eventNames, statusNames, withRules}
+use Rattle.meaning.specs.Sheet.{statuses, eventNames, statusNames}
 use Rattle.meaning.specs.ReadSheet.{heads, rulesOf, sheet}
 use Rattle.theory.specs.BuiltPapers.{heads-built, rules-built}
 use Rattle.theory.specs.Faults.{told-got, told-wrong}
 use Rattle.theory.specs.Lines.{Within, built-within}
-use Rattle.theory.specs.Formed.{Well}
+use Rattle.theory.specs.Formed.{WellHeads}
 use Rattle.theory.specs.Sheets.{heads-well}
 use Rattle.theory.specs.Suffix.{built-leaves, end-is}
 use Rattle.text.specs.Packed.{named}
 use Rattle.tables.specs.declared.Heads.{Heads}
-use Rattle.tables.specs.Heads.{blank, allNames, asHeads}
+use Rattle.tables.specs.Heads.{blank, asHeads}
 use Rattle.fields.specs.declared.HeadsRead.{HeadsRead}
 use Rattle.fields.specs.Answers.{asHeadsRead}
 use Rattle.rules.specs.declared.Rules.{Rules}
@@ -40,23 +40,18 @@ pub sheet-long : (s : List ℕ) → 32768 < length s → (q : SheetRead) → q �
 unfolding paper
 sheet-long s h q e = e ∙ sym (rw (lt-leb (length s) 32768 h))
 
--- the tables do not depend on the rules
-heads-only : (sh : M.Sheet) (rs : List M.Rule) → asHeads (withRules sh rs) ≡ asHeads sh
-unfolding asHeads withRules allNames statuses
-heads-only sh rs = refl
-
 -- the rules behind a sheet's names, and behind those in its tables
-abbrev below : M.Sheet → Reader (List M.Rule)
-below sh = rulesOf (sh .fields) (eventNames (sh .events)) (statusNames (statuses sh))
+abbrev below : M.Heads → Reader (List M.Rule)
+below hd = rulesOf (hd .fields) (eventNames (hd .events)) (statusNames (statuses hd))
 
 abbrev tabled : Heads → ℕ → Reader (List M.Rule)
 tabled x k = rulesOf (map named (take (x .fields) (x .names))) (map named (take (x .events) (drop (x .fields) (x .names)))) (map named (take k (drop (x .fields + x .events) (x .names))))
 
 -- the tables of a well formed sheet
-module _ (x : Heads) (sh : M.Sheet) (e : x ≡ asHeads sh) (well : Well sh) where
-  sizes : (x .fields ≡ length (sh .fields)) × (x .events ≡ length (sh .events)) × (x .stages + x .miles ≡ length (statuses sh))
+module _ (x : Heads) (hd : M.Heads) (e : x ≡ asHeads hd) (well : WellHeads hd) where
+  sizes : (x .fields ≡ length (hd .fields)) × (x .events ≡ length (hd .events)) × (x .stages + x .miles ≡ length (statuses hd))
   unfolding asHeads statuses
-  sizes = rw e (refl, refl, sym (length-append (sh .stages) (sh .miles)))
+  sizes = rw e (refl, refl, sym (length-append (hd .stages) (hd .miles)))
 
   ready : (names was : List ℕ) → length names ≡ 64 → length was ≡ 1024 → (k : ℕ) → k ≡ x .stages + x .miles → Ready names was (x .fields) (x .events) k
   ready names was n w k q = record {
@@ -68,10 +63,10 @@ module _ (x : Heads) (sh : M.Sheet) (e : x ≡ asHeads sh) (well : Well sh) wher
   }
 
   -- the rules are read with the sheet's own names
-  own-names : (k : ℕ) → k ≡ x .stages + x .miles → (l : ℕ) (t : List ℕ) → tabled x k l t ≡ below sh l t
+  own-names : (k : ℕ) → k ≡ x .stages + x .miles → (l : ℕ) (t : List ℕ) → tabled x k l t ≡ below hd l t
   own-names k q l t =
-      let z : k ≡ asHeads sh .stages + asHeads sh .miles = q ∙ rw e in
-      rw (e, fields-named sh well, events-named sh well, statuses-named sh well k z)
+      let z : k ≡ asHeads hd .stages + asHeads hd .miles = q ∙ rw e in
+      rw (e, fields-named hd well, events-named hd well, statuses-named hd well k z)
 
 -- WHAT THE ANSWERS TELL
 module _ (s : List ℕ) (h : HeadsRead) (is : h ≡ asHeadsRead s (heads 1 s)) (few : length s ≤ 32768) where
@@ -80,11 +75,11 @@ module _ (s : List ℕ) (h : HeadsRead) (is : h ≡ asHeadsRead s (heads 1 s)) (
   sheet-heads z q e = e ∙ sym (rw (le-leb (length s) 32768 few, told-wrong (asHeadsRead s) (λ h. h .number) (λ h. h .line) (λ a l t. refl) (λ n l. (refl, refl)) heads-built 1 s h is z))
 
   module _ (zero : h .number ≡ 0) where
-    upper : (sh : M.Sheet) × (l : ℕ) × (t : List ℕ) × (heads 1 s ≡ got sh l t) × (h ≡ asHeadsRead s (got sh l t))
+    upper : (hd : M.Heads) × (l : ℕ) × (t : List ℕ) × (heads 1 s ≡ got hd l t) × (h ≡ asHeadsRead s (got hd l t))
     upper = told-got (asHeadsRead s) (λ h. h .number) (λ h. h .line) (λ a l t. refl) (λ n l. (refl, refl)) heads-built 1 s h is zero
 
-    abbrev sh : M.Sheet
-    sh = upper .0
+    abbrev hd : M.Heads
+    hd = upper .0
 
     abbrev last : ℕ
     last = upper .1
@@ -92,41 +87,41 @@ module _ (s : List ℕ) (h : HeadsRead) (is : h ≡ asHeadsRead s (heads 1 s)) (
     abbrev rest : List ℕ
     rest = upper .2
 
-    reads : heads 1 s ≡ got sh last rest
+    reads : heads 1 s ≡ got hd last rest
     reads = upper .3
 
-    told-as : h ≡ asHeadsRead s (got sh last rest)
+    told-as : h ≡ asHeadsRead s (got hd last rest)
     told-as = upper .4
 
-    table : h .heads ≡ asHeads sh
+    table : h .heads ≡ asHeads hd
     table = ap (λ (h : HeadsRead). h .heads) told-as
 
-    well : Well sh
-    well = heads-well .gives 1 s .of sh last rest reads
+    well : WellHeads hd
+    well = heads-well .gives 1 s .of hd last rest reads
 
     pub sheet-statuses : Fits w64 (h .heads .stages + h .heads .miles)
-    sheet-statuses = omega (arith, sizes (h .heads) sh table well .2, well .statuses-few)
+    sheet-statuses = omega (arith, sizes (h .heads) hd table well .2, well .statuses-few)
 
     module _ (k : ℕ) (sum : k ≡ h .heads .stages + h .heads .miles) where
       pub sheet-ready : (names was : List ℕ) → length names ≡ 64 → length was ≡ 1024 → Ready names was (h .heads .fields) (h .heads .events) k
-      sheet-ready names was n w = ready (h .heads) sh table well names was n w k sum
+      sheet-ready names was n w = ready (h .heads) hd table well names was n w k sum
 
       module _ (u : List ℕ) (behind : u ≡ drop (h .at) s) (r : RulesRead) (told : r ≡ asRulesRead (tabled (h .heads) k 0 u)) where
         -- the rest is read with the sheet's own names
         rest-is : u ≡ rest
         rest-is = behind ∙ ap (λ (h : HeadsRead). drop (h .at) s) told-as ∙ end-is s rest (rw reads at (built-leaves heads-built 1 s))
 
-        same : tabled (h .heads) k 0 u ≡ below sh 0 rest
-        same = own-names (h .heads) sh table well k sum 0 u ∙ ap (below sh 0) rest-is
+        same : tabled (h .heads) k 0 u ≡ below hd 0 rest
+        same = own-names (h .heads) hd table well k sum 0 u ∙ ap (below hd 0) rest-is
 
-        own : r ≡ asRulesRead (below sh 0 rest)
+        own : r ≡ asRulesRead (below hd 0 rest)
         own = told ∙ ap asRulesRead same
 
         pub sheet-rules : (r .number ≡ 0 → ⊥) → (n : ℕ) → n ≡ h .line + r .line → (q : SheetRead) → q ≡ refusedSheet (r .number) n → q ≡ asSheetRead (paper 1 sheetBytes sheet s)
         unfolding paper sheet
         sheet-rules z n e q f =
             let m : n ≡ last + r .line = e ∙ ap (λ (h : HeadsRead). h .line + r .line) told-as in
-            f ∙ ap (refusedSheet (r .number)) m ∙ sym (rw (le-leb (length s) 32768 few, reads, rules-wrong (sh .fields) (eventNames (sh .events)) (statusNames (statuses sh)) rest r own z last))
+            f ∙ ap (refusedSheet (r .number)) m ∙ sym (rw (le-leb (length s) 32768 few, reads, rules-wrong (hd .fields) (eventNames (hd .events)) (statusNames (statuses hd)) rest r own z last))
 
         lines : (x : Got (List M.Rule)) → r ≡ asRulesRead x → Within (length rest) x → r .line ≤ length rest
         lines (got rs l t) e w = rw e (omega arith)
@@ -136,18 +131,18 @@ module _ (s : List ℕ) (h : HeadsRead) (is : h ≡ asHeadsRead s (heads 1 s)) (
         sheet-line n q =
             let a : last + length rest ≤ 1 + length s = rw reads at (built-within heads-built (1 + length s) 1 s (omega arith)) in
             let b : h .line ≡ last = ap (λ (h : HeadsRead). h .line) told-as in
-            omega (arith, lines (below sh 0 rest) own (built-within (rules-built (sh .fields) (eventNames (sh .events)) (statusNames (statuses sh))) (length rest) 0 rest (omega arith)))
+            omega (arith, lines (below hd 0 rest) own (built-within (rules-built (hd .fields) (eventNames (hd .events)) (statusNames (statuses hd))) (length rest) 0 rest (omega arith)))
 
         pub sheet-good : (z : r .number ≡ 0) (w : List ℕ) → w ≡ wordsSpace (replicate 1024 0) (tabled (h .heads) k 0 u)
             → _≡_ {A = SheetRead} (record { number = 0; line = 0; heads = h .heads; rules = r .rules; words = w }) (asSheetRead (paper 1 sheetBytes sheet s))
-        unfolding paper sheet withRules
+        unfolding paper sheet
         sheet-good z w e =
-            let g = rules-got (sh .fields) (eventNames (sh .events)) (statusNames (statuses sh)) rest r own z in
-            let v = rules-words (sh .fields) (eventNames (sh .events)) (statusNames (statuses sh)) rest r own z (replicate 1024 0) w (e ∙ ap (wordsSpace (replicate 1024 0)) same) in
-            let b = table ∙ sym (heads-only sh (g .value)) in
+            let g = rules-got (hd .fields) (eventNames (hd .events)) (statusNames (statuses hd)) rest r own z in
+            let v = rules-words (hd .fields) (eventNames (hd .events)) (statusNames (statuses hd)) rest r own z (replicate 1024 0) w (e ∙ ap (wordsSpace (replicate 1024 0)) same) in
+            let b = table in
             let t = g .table in
-            let whole : asSheetRead (paper 1 sheetBytes sheet s) ≡ asSheetRead (taken (withRules sh (g .value))) = rw (le-leb (length s) 32768 few, reads, g .reads last) in
-            let parts : _≡_ {A = SheetRead} (record { number = 0; line = 0; heads = h .heads; rules = r .rules; words = w }) (asSheetRead (taken (withRules sh (g .value)))) = cc in
+            let whole : asSheetRead (paper 1 sheetBytes sheet s) ≡ asSheetRead (taken (record { heads = hd; rules = g .value })) = rw (le-leb (length s) 32768 few, reads, g .reads last) in
+            let parts : _≡_ {A = SheetRead} (record { number = 0; line = 0; heads = h .heads; rules = r .rules; words = w }) (asSheetRead (taken (record { heads = hd; rules = g .value }))) = cc in
             parts ∙ sym whole
 
 pub ruleset reading = (sheet-long, sheet-heads, sheet-statuses, sheet-ready, sheet-rules, sheet-line, sheet-good)

@@ -15,5 +15,5 @@ refusedSheet n l = record { number = n; line = l; heads = blank; rules = asRules
 
 -- the tables, the rules and the words of their conditions at the start of their array
 abbrev pub asSheetRead : Answer M.Sheet → SheetRead
-asSheetRead (taken sh) = record { number = 0; line = 0; heads = asHeads sh; rules = asRules (sh .rules); words = sets (replicate 1024 0) 0 (allWords (sh .rules)) }
+asSheetRead (taken sh) = record { number = 0; line = 0; heads = asHeads (sh .heads); rules = asRules (sh .rules); words = sets (replicate 1024 0) 0 (allWords (sh .rules)) }
 asSheetRead (refused n p l) = refusedSheet n l

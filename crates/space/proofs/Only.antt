@@ -1,13 +1,65 @@
--- No second answer fits the contracts that callers reach: those that measure a text, and those that put one, with the lent space.
-use Prim.Native.Nat.{ℕ, _≤_}
-use mathlib.Core.Path.{_≡_}
-use mathlib.Core.List.{List}
-use lib.ListN.{length}
-use Rattle.theory.specs.Determined.{only}
-use Rattle.space.specs.Answers.{Wrote}
+-- No second answer fits: the contracts determine the length of a text that is measured, and where a text that is put ends, with the lent space.
+use denote.Ref.{now}
+use Rattle.theory.specs.Determined.{Determines, Settles, only}
+use Rattle.space.proofs.name_len.Reads as NameLen
+use Rattle.space.proofs.count_len.Reads as CountLen
+use Rattle.space.proofs.mark_len.Reads as MarkLen
+use Rattle.space.proofs.put_byte.Reads as PutByte
+use Rattle.space.proofs.put_text.Reads as PutText
+use Rattle.space.proofs.put_name.Reads as PutName
+use Rattle.space.proofs.line_at.Reads as LineAt
+use Rattle.space.proofs.mark_at.Reads as MarkAt
+use Rattle.space.proofs.put_case.Reads as PutCase
+use Rattle.space.proofs.put_end.Reads as PutEnd
 
-pub measured-only : (w : List ℕ) (m r q : ℕ) → (r ≡ length w) × (r ≤ m) → (q ≡ length w) × (q ≤ m) → r ≡ q
-measured-only w m r q h g = only (h .0) (g .0)
+pub name-len-only : Determines NameLen.Learnt
+name-len-only κs a r q s t h g = only (h .0) (g .0)
 
-pub wrote-only : (at : ℕ) (w o o1 o2 : List ℕ) (r q : ℕ) → Wrote at w o o1 r → Wrote at w o o2 q → (r ≡ q) × (o1 ≡ o2)
-wrote-only at w o o1 o2 r q h g = (only (h .next) (g .next), only (h .space) (g .space))
+pub count-len-only : Determines CountLen.Learnt
+count-len-only κs a r q s t h g = only (h .0) (g .0)
+
+pub mark-len-only : Determines MarkLen.Learnt
+mark-len-only κs a r q s t h g = only (h .0) (g .0)
+
+pub put-byte-only : Determines PutByte.Learnt
+put-byte-only κs a r q s t h g = only (h .next) (g .next)
+
+-- the lent space is the first parameter
+pub put-byte-space-only : Settles PutByte.Learnt (λ κs r s. now (s .0))
+put-byte-space-only κs a r q s t h g = only (h .space) (g .space)
+
+pub put-text-only : Determines PutText.Learnt
+put-text-only κs a r q s t h g = only (h .next) (g .next)
+
+pub put-text-space-only : Settles PutText.Learnt (λ κs r s. now (s .0))
+put-text-space-only κs a r q s t h g = only (h .space) (g .space)
+
+pub put-name-only : Determines PutName.Learnt
+put-name-only κs a r q s t h g = only (h .next) (g .next)
+
+pub put-name-space-only : Settles PutName.Learnt (λ κs r s. now (s .0))
+put-name-space-only κs a r q s t h g = only (h .space) (g .space)
+
+pub line-at-only : Determines LineAt.Learnt
+line-at-only κs a r q s t h g = only (h .next) (g .next)
+
+pub line-at-space-only : Settles LineAt.Learnt (λ κs r s. now (s .0))
+line-at-space-only κs a r q s t h g = only (h .space) (g .space)
+
+pub mark-at-only : Determines MarkAt.Learnt
+mark-at-only κs a r q s t h g = only (h .next) (g .next)
+
+pub mark-at-space-only : Settles MarkAt.Learnt (λ κs r s. now (s .0))
+mark-at-space-only κs a r q s t h g = only (h .space) (g .space)
+
+pub put-case-only : Determines PutCase.Learnt
+put-case-only κs a r q s t h g = only (h .next) (g .next)
+
+pub put-case-space-only : Settles PutCase.Learnt (λ κs r s. now (s .0))
+put-case-space-only κs a r q s t h g = only (h .space) (g .space)
+
+pub put-end-only : Determines PutEnd.Learnt
+put-end-only κs a r q s t h g = only (h .next) (g .next)
+
+pub put-end-space-only : Settles PutEnd.Learnt (λ κs r s. now (s .0))
+put-end-space-only κs a r q s t h g = only (h .space) (g .space)

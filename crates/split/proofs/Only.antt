@@ -1,10 +1,6 @@
--- No second answer fits the contract.
-use Prim.Native.Nat.{ℕ}
-use mathlib.Core.Path.{_≡_}
-use mathlib.Core.Bool.{true}
-use mathlib.Core.List.{List}
-use Rattle.meaning.specs.Desk.{paperLength}
-use Rattle.theory.specs.Determined.{only}
+-- No second answer fits: the contract of the public function determines what it answers.
+use Rattle.theory.specs.Determined.{Determines, only}
+use Rattle.split.proofs.paper_len.Reads as PaperLen
 
-pub paper-len-only : (s : List ℕ) (r q : ℕ) → r ≡ paperLength true s → q ≡ paperLength true s → r ≡ q
-paper-len-only s r q = only
+pub paper-len-only : Determines PaperLen.Learnt
+paper-len-only κs a r q s t = only

@@ -1,35 +1,43 @@
--- What callers use: on the tables of a sheet that was read, the run over the plan is what a list of nodes leads to.
-use Prim.Native.Nat.{ℕ, zero, suc, _-_, _/_, _≤_, _<_}
+-- What callers use: on rows that stand for tests, the run over their plan is what a list of nodes leads to.
+use Prim.Native.Nat.{ℕ, zero, suc, _-_, _*_, _/_, _≤_, _<_}
 use mathlib.Core.Path.{_≡_, refl, sym, ap, ap₂, subst, _∙_}
-use mathlib.Core.Bool.{Bool, true, false}
+use mathlib.Core.Bool.{Bool, true, false, not, _&&_, _||_, cond, and-false}
 use mathlib.Core.List.{List, [], _∷_, _++_, map}
-use mathlib.Core.Option.{some}
+use mathlib.Core.Logic.{inl, inr, ⊎-elim}
+use mathlib.Core.Option.{Option, none, some}
 use native.Mathlib.Omega.{arith}
-use lib.ListN.{length, length-set, getD, take, drop, replicate}
-use lib.Seq.{take-at}
-use Rattle.meaning.specs.Text.{In, joined}
+use lib.ListN.{length, length-map, length-set, getD, take, drop, replicate}
+use Rattle.meaning.specs.Text.{In, any, joined}
 use Rattle.meaning.specs.Graph.{Into, TestingOrder}
 use Rattle.meaning.specs.Condition.{Cond}
-use Rattle.meaning.specs.Sheet as M
-use Rattle.meaning.specs.Sheet.{Sheet, statuses}
-use Rattle.meaning.specs.Dependency.{nodes, predecessors}
-use Rattle.meaning.specs.Step.{Moment, rising, someHolds, setIf, runOn, leadsTo}
-use Rattle.theory.specs.Lists.{Once, at-place}
+use Rattle.meaning.specs.Sheet.{Sheet, Status, Rule, statuses}
+use Rattle.meaning.specs.Tests as T
+use Rattle.meaning.specs.Tests.{nodes, tests, closing, implied, ruleTests, ruleLine, testOf}
+use Rattle.meaning.specs.Dependency.{testsFor, predecessors}
+use Rattle.meaning.specs.Step as M
+use Rattle.meaning.specs.Step.{rising, allowed, holds, someHolds, setIf, runOn, leadsTo}
+use Rattle.theory.specs.Lists.{Once, at-place, in-cases, map-set}
 use Rattle.theory.specs.Orders.{Sorted, sorted-from, order-only}
 use Rattle.theory.specs.Formed.{Well}
+use Rattle.theory.specs.Rules.{test-of}
 use Rattle.number.specs.Answers.{coded}
-use Rattle.tables.specs.Heads.{padded, underCode}
+use Rattle.tables.specs.Heads.{padded}
+use Rattle.tables.proofs.Padded.{padded-store, padded-take}
 use Rattle.verdict.specs.Fits.{Fits}
-use Rattle.rule.specs.Answers.{noRule}
-use Rattle.rules.specs.Answers.{asRows, allWords, asRules}
-use Rattle.rules.proofs.Scan.{rows-count}
+use Rattle.rules.specs.Answers.{allWords}
+use Rattle.tests.specs.declared.Test.{Test}
+use Rattle.tests.specs.Table.{rowsFor}
+use Rattle.tests.specs.Answers.{rowsOf, Standing}
+use Rattle.tests.proofs.Callers.{standing-count, standing-for, rows-stand, tests-few}
 use Rattle.plan.specs.declared.Plan.{Plan}
-use Rattle.plan.specs.Plan.{groupOf, listedBy, asPlan}
-use Rattle.plan.proofs.Callers.{listed-few, listed-suc, plan-end, plan-group}
-use Rattle.step.specs.Run.{nodeMet, setMark, startOf, rowsAt, runFrom, runOver}
-use Rattle.step.specs.Moment.{markCode, marked, givenAt, planOf}
-use Rattle.step.proofs.Sides.{mark-set}
-use Rattle.step.proofs.Holding.{node-same}
+use Rattle.plan.specs.Plan.{listedBy, asPlan, planFor}
+use Rattle.plan.proofs.Callers.{listed-few, listed-suc, plan-end, plan-rows}
+use Rattle.test.specs.declared.Moment.{Moment}
+use Rattle.test.specs.Met.{testMet}
+use Rattle.test.specs.Codes.{markCode, marked, asMoment}
+use Rattle.test.proofs.Marks.{mark-yes}
+use Rattle.test.proofs.Callers.{FitsIf, holds-same}
+use Rattle.step.specs.Run.{mayChange, setMark, startOf, rowsAt, nodeMet, runFrom, runOver}
 
 -- A LIST OF NODES
 
@@ -53,67 +61,134 @@ unfolding setIf
 set-length true k half = length-set half (k / 2) (rising k)
 set-length false k half = refl
 
--- a node's status is one of the sheet's
-status-below : (sh : Sheet) (k : ℕ) → k < nodes sh → k / 2 < length (statuses sh)
-unfolding nodes
-status-below sh k h = omega arith
+-- THE MARK OF A NODE
+
+-- set
+mark-set : (b : Bool) (k : ℕ) (half : List Bool) → k / 2 < length half → setMark b k (marked half) ≡ marked (setIf b k half)
+unfolding setMark setIf marked
+mark-set true k half h =
+    padded-store 32 0 (map markCode half) (k / 2) (cond (rising k) 2 0) (omega (arith, length-map half markCode))
+    ∙ ap (padded 32 0) (sym (map-set markCode half (k / 2) (rising k)))
+mark-set false k half h = refl
+
+-- and read before
+may-same : (before : List Bool) (k : ℕ) → mayChange (marked before) k ≡ allowed before k
+unfolding mayChange allowed
+may-same before k = ap (λ b. cond (rising k) (not b) b) (mark-yes before (k / 2))
+
+-- THE TESTS OF A NODE
+
+-- every condition is one that the machine values rightly
+abbrev pub FitAll : List T.Test → Type 0
+FitAll ts = (t : T.Test) → In t ts → FitsIf (t .condition)
+
+module _ (m : M.Moment) (half : List Bool) (ws : List ℕ) where
+  -- tests of the node k
+  tests-same : (k : ℕ) (ts : List T.Test) (rs : List Test) → Standing ws ts rs → FitAll ts → ((t : T.Test) → In t ts → t .node ≡ k)
+      → allowed (m .before) k && any (testMet ws (asMoment m) (marked half)) rs ≡ any (holds m half) ts
+  unfolding any
+  tests-same k [] [] s fits all = and-false (allowed (m .before) k)
+  tests-same k [] (r ∷ rs) s fits all = absurd s
+  tests-same k (t ∷ ts) [] s fits all = absurd s
+  tests-same k (t ∷ ts) (r ∷ rs) s fits all =
+      and-or (allowed (m .before) k) (testMet ws (asMoment m) (marked half) r) (any (testMet ws (asMoment m) (marked half)) rs)
+      ∙ ap₂ _||_
+      (ap (λ n. allowed (m .before) n && testMet ws (asMoment m) (marked half) r) (sym (all t (inl refl))) ∙ holds-same m half ws t r (s .0) (fits t (inl refl)))
+      (tests-same k ts rs (s .1) (λ q i. fits q (inr i)) (λ q i. all q (inr i)))
+    where
+      and-or : (a b c : Bool) → a && (b || c) ≡ (a && b) || (a && c)
+      and-or true b c = refl
+      and-or false b c = refl
+
+  -- a node's test is the meaning's
+  pub node-same : (k : ℕ) (ts : List T.Test) (rs : List Test) → Standing ws ts rs → FitAll ts → nodeMet ws (asMoment m) (marked half) k (rowsFor rs k) ≡ someHolds m half ts k
+  unfolding nodeMet someHolds
+  node-same k ts rs s fits =
+      ap (λ b. b && any (testMet ws (asMoment m) (marked half)) (rowsFor rs k)) (may-same (m .before) k)
+      ∙ tests-same k (testsFor ts k) (rowsFor rs k) (standing-for ws ts rs k s) (λ t i. fits t (test-of ts k t i .0)) (λ t i. test-of ts k t i .1)
 
 -- THE RUN
 
--- every condition is one that the machine values rightly
-abbrev pub AllFit : Sheet → Type 0
-AllFit sh = (r : M.Rule) → In r (sh .rules) → (c : Cond) → r .condition ≡ some c → Fits c
+-- over any tests, and rows that stand for them
+module _ (ts : List T.Test) (rs : List Test) (ws : List ℕ) (s : Standing ws ts rs) (fits : FitAll ts) (few-tests : length ts ≤ 160)
+    (o : List ℕ) (once : Once o) (n : ℕ) (only : (k : ℕ) → In k o → k < n) where
+  few : length (listedBy rs o) ≤ 160
+  few = omega (arith, listed-few rs o once, standing-count ws ts rs s)
 
-module _ (sh : Sheet) (w : Well sh) (fits : AllFit sh) (o : List ℕ) (once : Once o) (only : (k : ℕ) → In k o → k < nodes sh) where
-  few : length (listedBy (asRows 0 (sh .rules)) o) ≤ 128
-  few = omega (arith, listed-few (asRows 0 (sh .rules)) o once, rows-count 0 (sh .rules), w .rules-few)
+  taken : take (length o) (padded 64 0 o) ≡ o
+  taken = padded-take 64 0 o
 
-  start-at : (i : ℕ) → i ≤ length o → startOf (planOf sh o) i ≡ length (listedBy (asRows 0 (sh .rules)) (take i o))
+  start-at : (i : ℕ) → i ≤ length o → startOf (planFor rs o) i ≡ length (listedBy rs (take i o))
   unfolding listedBy joined
   start-at zero h = refl
-  start-at (suc i) h = plan-end (asRows 0 (sh .rules)) o few i (omega arith)
+  start-at (suc i) h = plan-end rs (padded 64 0 o) (length o) o taken few i (omega arith)
 
-  -- the rules at a place are those of its node
-  rows-at : (i : ℕ) → i < length o → rowsAt (planOf sh o) i ≡ groupOf (asRows 0 (sh .rules)) (getD o i 0)
+  -- the rows at a place are those of its node
+  rows-at : (i : ℕ) → i < length o → rowsAt (planFor rs o) i ≡ rowsFor rs (getD o i 0)
   unfolding rowsAt
   rows-at i h =
-      let rows = asRows 0 (sh .rules) in
-      let long : getD (planOf sh o .ends) i 0 - startOf (planOf sh o) i ≡ length (groupOf rows (getD o i 0)) =
-      omega (arith, plan-end rows o few i h, start-at i (omega arith), listed-suc rows o i h) in
-      ap₂ (λ n s. take n (drop s (planOf sh o .rows))) long (start-at i (omega arith)) ∙ plan-group rows o few i h
+      let p = planFor rs o in
+      let long : getD (p .ends) i 0 - startOf p i ≡ length (rowsFor rs (getD o i 0)) =
+      omega (arith, plan-end rs (padded 64 0 o) (length o) o taken few i h, start-at i (omega arith), listed-suc rs o i h) in
+      ap₂ (λ n s. take n (drop s (p .rows))) long (start-at i (omega arith)) ∙ plan-rows rs (padded 64 0 o) (length o) o taken few i h
 
-  module _ (m : Moment) where
-    run-same : (left : List ℕ) (i : ℕ) (half : List Bool) → drop i o ≡ left → length half ≡ length (statuses sh)
-        → runFrom (givenAt sh m) (planOf sh o) i left (marked half) ≡ marked (runOn (someHolds sh m) left half)
+  module _ (m : M.Moment) where
+    run-same : (left : List ℕ) (i : ℕ) (half : List Bool) → drop i o ≡ left → n ≤ length half * 2
+        → runFrom ws (asMoment m) (planFor rs o) i left (marked half) ≡ marked (runOn (λ half. someHolds m half ts) left half)
     unfolding runFrom runOn
     run-same [] i half e full = refl
     run-same (k ∷ left) i half e full =
         let (h, is, rest) = drop-next o i k left e in
-        let test : Bool = someHolds sh m half k in
-        let met : nodeMet (givenAt sh m) (marked half) k (rowsAt (planOf sh o) i) ≡ test =
-        ap (nodeMet (givenAt sh m) (marked half) k) (rows-at i h ∙ ap (groupOf (asRows 0 (sh .rules))) is) ∙ node-same sh m half k fits in
-        let below : k / 2 < length half = rw full (status-below sh k (only k (subst (λ x. In x o) is (at-place o i h)))) in
-        ap (λ b. runFrom (givenAt sh m) (planOf sh o) (suc i) left (setMark b k (marked half))) met
-        ∙ ap (runFrom (givenAt sh m) (planOf sh o) (suc i) left) (mark-set test k half below)
-        ∙ run-same left (suc i) (setIf test k half) rest (set-length test k half ∙ full)
+        let p = planFor rs o in
+        let test : Bool = someHolds m half ts k in
+        let met : nodeMet ws (asMoment m) (marked half) k (rowsAt p i) ≡ test =
+        ap (nodeMet ws (asMoment m) (marked half) k) (rows-at i h ∙ ap (rowsFor rs) is) ∙ node-same m half ws k ts rs s fits in
+        let below : k < n = only k (subst (λ x. In x o) is (at-place o i h)) in
+        ap (λ b. runFrom ws (asMoment m) p (suc i) left (setMark b k (marked half))) met
+        ∙ ap (runFrom ws (asMoment m) p (suc i) left) (mark-set test k half (omega arith))
+        ∙ run-same left (suc i) (setIf test k half) rest (rw (set-length test k half) full)
 
     -- with the before statuses at the start
-    pub run-leads : length (m .before) ≡ length (statuses sh) → runOver (givenAt sh m) (planOf sh o) o ≡ marked (leadsTo sh m o)
-    unfolding runOver leadsTo
-    run-leads full = run-same o 0 (m .before) refl full
+    pub run-leads : n ≤ length (m .before) * 2 → runOver ws (asMoment m) (planFor rs o) ≡ marked (leadsTo ts m o)
+    unfolding runOver leadsTo asPlan
+    run-leads full = ap (λ l. runFrom ws (asMoment m) (planFor rs o) 0 l (marked (m .before))) taken ∙ run-same o 0 (m .before) refl full
 
-    -- the same of what `run_step` answers, with each of its arguments as a fact
-    pub step-leads : length (m .before) ≡ length (statuses sh)
-        → (words under : List ℕ) (stages event : ℕ) (values before : List ℕ) (p : Plan) (after : List ℕ)
-        → words ≡ padded 1024 0 (allWords (sh .rules)) → under ≡ padded 32 0 (map (λ s. underCode (s .under)) (statuses sh)) → stages ≡ length (sh .stages)
-        → event ≡ m .event → values ≡ padded 16 0 (map coded (m .values)) → before ≡ padded 32 0 (map markCode (m .before)) → p ≡ asPlan (asRows 0 (sh .rules)) o
-        → after ≡ runOver (record { words = words; under = under; stages = stages; event = event; values = values; before = before }) p o
-        → after ≡ padded 32 0 (map markCode (leadsTo sh m o))
-    unfolding marked
-    step-leads full words under stages event values before p after e1 e2 e3 e4 e5 e6 e7 e =
-        e ∙ rw (e1, e2, e3, e4, e5, e6, e7) (run-leads full)
+-- A SHEET
+
+-- the condition of every rule is one that the machine values rightly
+abbrev pub AllFit : Sheet → Type 0
+AllFit sh = (r : Rule) → In r (sh .rules) → (c : Cond) → r .condition ≡ some c → Fits c
+
+-- so is that of every test
+tests-fit : (sh : Sheet) → AllFit sh → FitAll (tests sh)
+unfolding tests ruleTests testOf implied
+tests-fit sh fits t i =
+    ⊎-elim (rule-fits (ruleLine (sh .heads)) (sh .rules) fits) (implied-fits 0 (sh .heads .stages)) (in-cases t (ruleTests (sh .heads) (ruleLine (sh .heads)) (sh .rules)) (implied 0 (sh .heads .stages)) i)
+  where
+    rule-fits : (l : ℕ) (rs : List Rule) → ((r : Rule) → In r rs → FitsIf (r .condition)) → In t (ruleTests (sh .heads) l rs) → FitsIf (t .condition)
+    rule-fits l [] h j = absurd j
+    rule-fits l (r ∷ rs) h (inl e) = λ d c. h r (inl refl) d (sym (ap (λ (w : T.Test). w .condition) e) ∙ c)
+    rule-fits l (r ∷ rs) h (inr j) = rule-fits (suc l) rs (λ q k. h q (inr k)) j
+
+    bare-fits : (x : ℕ) (u : Option ℕ) → In t (closing x u) → FitsIf (t .condition)
+    bare-fits x none j = absurd j
+    bare-fits x (some p) (inl e) = λ d c. let q : none ≡ some d = sym (ap (λ (w : T.Test). w .condition) e) ∙ c in absurd (let z : _≡_ {A = ℕ} 0 1 = cc in omega arith)
+    bare-fits x (some p) (inr j) = absurd j
+
+    implied-fits : (x : ℕ) (ss : List Status) → In t (implied x ss) → FitsIf (t .condition)
+    implied-fits x [] j = absurd j
+    implied-fits x (z ∷ ss) j = ⊎-elim (bare-fits x (z .under)) (implied-fits (suc x) ss) (in-cases t (closing x (z .under)) (implied (suc x) ss) j)
+
+module _ (sh : Sheet) (w : Well sh) (fits : AllFit sh) (o : List ℕ) (once : Once o) (only : (k : ℕ) → In k o → k < nodes (sh .heads))
+    (m : M.Moment) (full : length (m .before) ≡ length (statuses (sh .heads))) where
+  -- the run over its plan, with its words at the start of any
+  pub sheet-leads : (ws rest : List ℕ) → ws ≡ allWords (sh .rules) ++ rest → runOver ws (asMoment m) (planFor (rowsOf sh) o) ≡ marked (leadsTo (tests sh) m o)
+  unfolding nodes
+  sheet-leads ws rest e = run-leads (tests sh) (rowsOf sh) ws (rows-stand sh ws rest e) (tests-fit sh fits) (tests-few sh w) o once (nodes (sh .heads)) only m (omega (arith, full))
 
 -- a testing order
-pub order-leads : (sh : Sheet) → Well sh → AllFit sh → (o : List ℕ) → TestingOrder (nodes sh) (predecessors sh) o → (m : Moment) → length (m .before) ≡ length (statuses sh)
-    → runOver (givenAt sh m) (planOf sh o) o ≡ marked (leadsTo sh m o)
-order-leads sh w fits o t m full = run-leads sh w fits o (order-once (nodes sh) (predecessors sh) o t) (λ k i. order-only (nodes sh) (predecessors sh) o t k i) m full
+pub order-leads : (sh : Sheet) → Well sh → AllFit sh → (o : List ℕ) → TestingOrder (nodes (sh .heads)) (predecessors (tests sh)) o → (m : M.Moment) → length (m .before) ≡ length (statuses (sh .heads))
+    → (ws rest : List ℕ) → ws ≡ allWords (sh .rules) ++ rest → runOver ws (asMoment m) (planFor (rowsOf sh) o) ≡ marked (leadsTo (tests sh) m o)
+order-leads sh w fits o t m full =
+    let n = nodes (sh .heads) in
+    sheet-leads sh w fits o (order-once n (predecessors (tests sh)) o t) (λ k i. order-only n (predecessors (tests sh)) o t k i) m full

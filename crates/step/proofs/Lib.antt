@@ -1,11 +1,6 @@
 -- Laws of the functions:
 pub mod Laws
--- Marks and codes, and the words of conditions:
-pub mod Sides
-pub mod Parts
--- A rule holds on the tables where it holds, a node is met where some rule of it holds:
-pub mod Holding
--- What callers use of the step:
+-- What callers use: the run is what a list of nodes leads to:
 pub mod Callers
 -- No second answer fits:
 pub mod Only

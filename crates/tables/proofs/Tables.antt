@@ -11,11 +11,12 @@ use lib.ListN.{length, take, drop, getD, length-append, length-map, List·getD-a
 use lib.Seq.{take-append-seam, drop-append-add, getD-append-add}
 use Rattle.meaning.specs.Text.{In, isIn, joined, from}
 use Rattle.meaning.specs.Name.{Name}
-use Rattle.meaning.specs.Sheet.{Sheet, Event, Status, eventNames, statusNames, statuses, stageOver}
+use Rattle.meaning.specs.Sheet as M
+use Rattle.meaning.specs.Sheet.{Event, Status, eventNames, statusNames, statuses, stageOver}
 use Rattle.meaning.specs.Graph.{without}
 use Rattle.theory.specs.Lists.{in-cases, map-in, Once, is-in, in-is, without-in, once-without, length-without, at-place}
 use Rattle.theory.specs.Names.{Good}
-use Rattle.theory.specs.Formed.{Each, UnderIn, StatusIn, EventIn, Well}
+use Rattle.theory.specs.Formed.{Each, UnderIn, StatusIn, EventIn, WellHeads}
 use Rattle.text.specs.Packed.{packed, named}
 use Rattle.text.proofs.Callers.{named-packed, good-packable}
 use Rattle.tables.specs.declared.Heads.{Heads}
@@ -95,24 +96,24 @@ code-few : (k : ℕ) (u : Option ℕ) → UnderIn k u → underCode u ≤ k
 code-few k none h = omega arith
 code-few k (some p) h = omega arith
 
-statuses-in : (sh : Sheet) → Well sh → Each (StatusIn (length (sh .stages))) (statuses sh)
+statuses-in : (hd : M.Heads) → WellHeads hd → Each (StatusIn (length (hd .stages))) (statuses hd)
 unfolding statuses
-statuses-in sh w x m = ⊎-elim (w .stages x) (w .miles x) (in-cases x (sh .stages) (sh .miles) m)
+statuses-in hd w x m = ⊎-elim (w .stages x) (w .miles x) (in-cases x (hd .stages) (hd .miles) m)
 
-pub sized : (sh : Sheet) → Well sh → Sized (asHeads sh)
+pub sized : (hd : M.Heads) → WellHeads hd → Sized (asHeads hd)
 unfolding asHeads statuses
-sized sh w =
-    let f = length (sh .fields) in
+sized hd w =
+    let f = length (hd .fields) in
     let many : Event → ℕ = λ (e : Event). length (e .carries) in
     let code : Status → ℕ = λ (s : Status). underCode (s .under) in
     record {
       few-fields = w .fields-few;
       few-events = w .events-few;
-      few-statuses = omega (arith, w .statuses-few, length-append (sh .stages) (sh .miles));
-      few-carried = λ e. rw (padded-at 16 0 (map many (sh .events)) e) (mapped-at many 16 (sh .events) e (λ x m. carries-few f (w .fields-few) x (w .events x m)));
+      few-statuses = omega (arith, w .statuses-few, length-append (hd .stages) (hd .miles));
+      few-carried = λ e. rw (padded-at 16 0 (map many (hd .events)) e) (mapped-at many 16 (hd .events) e (λ x m. carries-few f (w .fields-few) x (w .events x m)));
       fields-carried = λ e i h.
-          rw (padded-at 256 0 (joined row (sh .events)) (16 * e + i)) (cells-below f (w .fields-few) (sh .events) (w .events) e i (rw (padded-at 16 0 (map many (sh .events)) e) at h));
-      under-stage = λ x. rw (padded-at 32 0 (map code (statuses sh)) x) (mapped-at code (length (sh .stages)) (statuses sh) x (λ s m. code-few (length (sh .stages)) (s .under) (statuses-in sh w s m .under)));
+          rw (padded-at 256 0 (joined row (hd .events)) (16 * e + i)) (cells-below f (w .fields-few) (hd .events) (w .events) e i (rw (padded-at 16 0 (map many (hd .events)) e) at h));
+      under-stage = λ x. rw (padded-at 32 0 (map code (statuses hd)) x) (mapped-at code (length (hd .stages)) (statuses hd) x (λ s m. code-few (length (hd .stages)) (s .under) (statuses-in hd w s m .under)));
     }
 
 -- AND STAND FOR THE SHEET
@@ -130,11 +131,11 @@ code-back none = refl
 code-back (some p) = refl
 
 -- the name at a place
-name-at : (sh : Sheet) → Each Good (allNames sh) → (i : ℕ) → i < length (allNames sh) → named (getD (asHeads sh .names) i 0) ≡ getD (allNames sh) i []
+name-at : (hd : M.Heads) → Each Good (allNames hd) → (i : ℕ) → i < length (allNames hd) → named (getD (asHeads hd .names) i 0) ≡ getD (allNames hd) i []
 unfolding asHeads packed
-name-at sh h i g =
-    let e : getD (map packed (allNames sh)) i 0 ≡ packed (getD (allNames sh) i []) = List·getD-map packed (allNames sh) i [] in
-    rw (padded-at 64 0 (map packed (allNames sh)) i, e) (good-again (getD (allNames sh) i []) (h _ (member (allNames sh) i g)))
+name-at hd h i g =
+    let e : getD (map packed (allNames hd)) i 0 ≡ packed (getD (allNames hd) i []) = List·getD-map packed (allNames hd) i [] in
+    rw (padded-at 64 0 (map packed (allNames hd)) i, e) (good-again (getD (allNames hd) i []) (h _ (member (allNames hd) i g)))
   where
     member : (l : List Name) (i : ℕ) → i < length l → In (getD l i []) l
     member [] i h = absurd (omega arith)
@@ -147,79 +148,79 @@ noEvent = record { name = []; carries = [] }
 abbrev noStatus : Status
 noStatus = record { name = []; under = none }
 
-module _ (sh : Sheet) (w : Well sh) where
-  pub all-good : Each Good (allNames sh)
+module _ (hd : M.Heads) (w : WellHeads hd) where
+  pub all-good : Each Good (allNames hd)
   unfolding allNames eventNames statusNames
   all-good n m =
       ⊎-elim
-      (λ i. ⊎-elim (w .fields n) (λ j. let (e, k, z) = map-in (λ (x : Event). x .name) n (sh .events) j in subst Good (sym z) (w .events e k .name)) (in-cases n (sh .fields) (eventNames (sh .events)) i))
-      (λ i. let (x, k, z) = map-in (λ (x : Status). x .name) n (statuses sh) i in subst Good (sym z) (statuses-in sh w x k .name))
-      (in-cases n (sh .fields ++ eventNames (sh .events)) (statusNames (statuses sh)) m)
+      (λ i. ⊎-elim (w .fields n) (λ j. let (e, k, z) = map-in (λ (x : Event). x .name) n (hd .events) j in subst Good (sym z) (w .events e k .name)) (in-cases n (hd .fields) (eventNames (hd .events)) i))
+      (λ i. let (x, k, z) = map-in (λ (x : Status). x .name) n (statuses hd) i in subst Good (sym z) (statuses-in hd w x k .name))
+      (in-cases n (hd .fields ++ eventNames (hd .events)) (statusNames (statuses hd)) m)
 
   abbrev tables : Heads
-  tables = asHeads sh
+  tables = asHeads hd
 
-  names-all : length (allNames sh) ≡ length (sh .fields) + length (sh .events) + length (statuses sh)
+  names-all : length (allNames hd) ≡ length (hd .fields) + length (hd .events) + length (statuses hd)
   unfolding allNames eventNames statusNames
   names-all = simp (length-append, length-map)
 
-  event-name : (e : ℕ) → e < length (sh .events) → getD (allNames sh) (length (sh .fields) + e) [] ≡ getD (sh .events) e noEvent .name
+  event-name : (e : ℕ) → e < length (hd .events) → getD (allNames hd) (length (hd .fields) + e) [] ≡ getD (hd .events) e noEvent .name
   unfolding allNames eventNames
   event-name e h =
-      let k : length (sh .fields) + e < length (sh .fields ++ eventNames (sh .events)) = simp (length-append, length-map) (omega arith) in
-      rw (List·getD-append (sh .fields ++ eventNames (sh .events)) (statusNames (statuses sh)) [] (length (sh .fields) + e) k, getD-append-add (sh .fields) (eventNames (sh .events)) e [])
-      (List·getD-map (λ (x : Event). x .name) (sh .events) e noEvent)
+      let k : length (hd .fields) + e < length (hd .fields ++ eventNames (hd .events)) = simp (length-append, length-map) (omega arith) in
+      rw (List·getD-append (hd .fields ++ eventNames (hd .events)) (statusNames (statuses hd)) [] (length (hd .fields) + e) k, getD-append-add (hd .fields) (eventNames (hd .events)) e [])
+      (List·getD-map (λ (x : Event). x .name) (hd .events) e noEvent)
 
-  status-name : (x : ℕ) → getD (allNames sh) (length (sh .fields) + length (sh .events) + x) [] ≡ getD (statuses sh) x noStatus .name
+  status-name : (x : ℕ) → getD (allNames hd) (length (hd .fields) + length (hd .events) + x) [] ≡ getD (statuses hd) x noStatus .name
   unfolding allNames statusNames eventNames
   status-name x =
-      let k : length (sh .fields) + length (sh .events) + x ≡ length (sh .fields ++ eventNames (sh .events)) + x = simp (length-append, length-map) in
-      rw (k, getD-append-add (sh .fields ++ eventNames (sh .events)) (statusNames (statuses sh)) x []) (List·getD-map (λ (x : Status). x .name) (statuses sh) x noStatus)
+      let k : length (hd .fields) + length (hd .events) + x ≡ length (hd .fields ++ eventNames (hd .events)) + x = simp (length-append, length-map) in
+      rw (k, getD-append-add (hd .fields ++ eventNames (hd .events)) (statusNames (statuses hd)) x []) (List·getD-map (λ (x : Status). x .name) (statuses hd) x noStatus)
 
-  carried-is : (e : ℕ) → e < length (sh .events) → take (length (getD (sh .events) e noEvent .carries)) (drop (16 * e) (tables .carried)) ≡ getD (sh .events) e noEvent .carries
+  carried-is : (e : ℕ) → e < length (hd .events) → take (length (getD (hd .events) e noEvent .carries)) (drop (16 * e) (tables .carried)) ≡ getD (hd .events) e noEvent .carries
   unfolding asHeads padded
-  carried-is e h = cells-row (length (sh .fields)) (w .fields-few) (sh .events) (w .events) e noEvent h _
+  carried-is e h = cells-row (length (hd .fields)) (w .fields-few) (hd .events) (w .events) e noEvent h _
 
-  event-is : (e : ℕ) → e < length (sh .events) → eventAt tables e ≡ getD (sh .events) e noEvent
+  event-is : (e : ℕ) → e < length (hd .events) → eventAt tables e ≡ getD (hd .events) e noEvent
   unfolding asHeads
   event-is e h =
       let many : Event → ℕ = λ (x : Event). length (x .carries) in
-      let n = name-at sh all-good (length (sh .fields) + e) (omega (arith, names-all)) ∙ event-name e h in
-      let c : getD (tables .carries) e 0 ≡ length (getD (sh .events) e noEvent .carries) = padded-at 16 0 (map many (sh .events)) e ∙ List·getD-map many (sh .events) e noEvent in
+      let n = name-at hd all-good (length (hd .fields) + e) (omega (arith, names-all)) ∙ event-name e h in
+      let c : getD (tables .carries) e 0 ≡ length (getD (hd .events) e noEvent .carries) = padded-at 16 0 (map many (hd .events)) e ∙ List·getD-map many (hd .events) e noEvent in
       rw (n, c, carried-is e h)
 
-  status-is : (x : ℕ) → x < length (statuses sh) → statusAt tables x ≡ getD (statuses sh) x noStatus
+  status-is : (x : ℕ) → x < length (statuses hd) → statusAt tables x ≡ getD (statuses hd) x noStatus
   unfolding asHeads
   status-is x h =
       let code : Status → ℕ = λ (s : Status). underCode (s .under) in
-      let n = name-at sh all-good (length (sh .fields) + length (sh .events) + x) (omega (arith, names-all)) ∙ status-name x in
-      let u : getD (tables .under) x 0 ≡ underCode (getD (statuses sh) x noStatus .under) = padded-at 32 0 (map code (statuses sh)) x ∙ List·getD-map code (statuses sh) x noStatus in
-      rw (n, u, code-back (getD (statuses sh) x noStatus .under))
+      let n = name-at hd all-good (length (hd .fields) + length (hd .events) + x) (omega (arith, names-all)) ∙ status-name x in
+      let u : getD (tables .under) x 0 ≡ underCode (getD (statuses hd) x noStatus .under) = padded-at 32 0 (map code (statuses hd)) x ∙ List·getD-map code (statuses hd) x noStatus in
+      rw (n, u, code-back (getD (statuses hd) x noStatus .under))
 
-  fields-again : namesAt tables 0 (length (sh .fields)) ≡ sh .fields
+  fields-again : namesAt tables 0 (length (hd .fields)) ≡ hd .fields
   unfolding namesAt asHeads allNames
-  fields-again = rw (append-assoc (sh .fields)) (names-part 64 [] (sh .fields) (eventNames (sh .events) ++ statusNames (statuses sh)) (rw (append-assoc (sh .fields)) at (again-each (allNames sh) all-good)))
+  fields-again = rw (append-assoc (hd .fields)) (names-part 64 [] (hd .fields) (eventNames (hd .events) ++ statusNames (statuses hd)) (rw (append-assoc (hd .fields)) at (again-each (allNames hd) all-good)))
 
-  events-again : map (eventAt tables) (from 0 (length (sh .events))) ≡ sh .events
-  events-again = from-at (eventAt tables) noEvent (sh .events) 0 (λ i h. let z : 0 + i ≡ i = omega arith in rw z (event-is i h))
+  events-again : map (eventAt tables) (from 0 (length (hd .events))) ≡ hd .events
+  events-again = from-at (eventAt tables) noEvent (hd .events) 0 (λ i h. let z : 0 + i ≡ i = omega arith in rw z (event-is i h))
 
-  stages-again : map (statusAt tables) (from 0 (length (sh .stages))) ≡ sh .stages
+  stages-again : map (statusAt tables) (from 0 (length (hd .stages))) ≡ hd .stages
   unfolding statuses
   stages-again =
-      from-at (statusAt tables) noStatus (sh .stages) 0
-      (λ i h. let z : 0 + i ≡ i = omega arith in rw z (status-is i (omega (arith, length-append (sh .stages) (sh .miles))) ∙ List·getD-append (sh .stages) (sh .miles) noStatus i h))
+      from-at (statusAt tables) noStatus (hd .stages) 0
+      (λ i h. let z : 0 + i ≡ i = omega arith in rw z (status-is i (omega (arith, length-append (hd .stages) (hd .miles))) ∙ List·getD-append (hd .stages) (hd .miles) noStatus i h))
 
-  miles-again : map (statusAt tables) (from (length (sh .stages)) (length (sh .miles))) ≡ sh .miles
+  miles-again : map (statusAt tables) (from (length (hd .stages)) (length (hd .miles))) ≡ hd .miles
   unfolding statuses
   miles-again =
-      from-at (statusAt tables) noStatus (sh .miles) (length (sh .stages))
-      (λ i h. status-is (length (sh .stages) + i) (omega (arith, length-append (sh .stages) (sh .miles))) ∙ getD-append-add (sh .stages) (sh .miles) i noStatus)
+      from-at (statusAt tables) noStatus (hd .miles) (length (hd .stages))
+      (λ i h. status-is (length (hd .stages) + i) (omega (arith, length-append (hd .stages) (hd .miles))) ∙ getD-append-add (hd .stages) (hd .miles) i noStatus)
 
-  pub heads-again : sh .rules ≡ [] → headsOf (asHeads sh) ≡ sh
+  pub heads-again : headsOf (asHeads hd) ≡ hd
   unfolding headsOf asHeads
-  heads-again bare = rw (good-again (sh .model) (w .model), fields-again, events-again, stages-again, miles-again, ← bare)
+  heads-again = rw (good-again (hd .model) (w .model), fields-again, events-again, stages-again, miles-again)
 
 -- the stage over a status, in its table
-pub under-over : (sh : Sheet) (x : ℕ) → getD (padded 32 0 (map (λ s. underCode (s .under)) (statuses sh))) x 0 ≡ underCode (stageOver sh x)
+pub under-over : (hd : M.Heads) (x : ℕ) → getD (padded 32 0 (map (λ s. underCode (s .under)) (statuses hd))) x 0 ≡ underCode (stageOver hd x)
 unfolding stageOver
-under-over sh x = padded-at 32 0 (map (λ s. underCode (s .under)) (statuses sh)) x ∙ List·getD-map (λ (s : Status). underCode (s .under)) (statuses sh) x (record { name = []; under = none })
+under-over hd x = padded-at 32 0 (map (λ s. underCode (s .under)) (statuses hd)) x ∙ List·getD-map (λ (s : Status). underCode (s .under)) (statuses hd) x (record { name = []; under = none })

@@ -1,4 +1,4 @@
--- The tables of a sheet above its rules: those that a sheet has, and the sheet for which any tables stand.
+-- The tables of a sheet above its rules: those that a sheet has, and what any tables stand for.
 use Prim.Native.Nat.{ℕ, zero, suc, _+_, _-_, _*_, _≤_, _<_}
 use mathlib.Core.Path.{_≡_}
 use mathlib.Core.List.{List, [], _∷_, _++_, map}
@@ -6,7 +6,8 @@ use mathlib.Core.Option.{Option, none, some}
 use lib.ListN.{length, take, drop, getD, replicate}
 use Rattle.meaning.specs.Text.{joined, from}
 use Rattle.meaning.specs.Name.{Name}
-use Rattle.meaning.specs.Sheet.{Sheet, Event, Status, eventNames, statusNames, statuses}
+use Rattle.meaning.specs.Sheet as M
+use Rattle.meaning.specs.Sheet.{Event, Status, eventNames, statusNames, statuses}
 use Rattle.text.specs.Packed.{packed, named}
 use Rattle.tables.specs.declared.Heads.{Heads}
 
@@ -20,21 +21,21 @@ underCode none = 0
 underCode (some p) = suc p
 
 -- the names of a sheet in the order of its lines
-unfoldable pub allNames : Sheet → List Name
-allNames sh = sh .fields ++ eventNames (sh .events) ++ statusNames (statuses sh)
+unfoldable pub allNames : M.Heads → List Name
+allNames hd = hd .fields ++ eventNames (hd .events) ++ statusNames (statuses hd)
 
 -- the tables of a sheet
-unfoldable pub asHeads : Sheet → Heads
-asHeads sh = record {
-  model = packed (sh .model);
-  fields = length (sh .fields);
-  events = length (sh .events);
-  stages = length (sh .stages);
-  miles = length (sh .miles);
-  names = padded 64 0 (map packed (allNames sh));
-  carried = padded 256 0 (joined (λ e. padded 16 0 (e .carries)) (sh .events));
-  carries = padded 16 0 (map (λ e. length (e .carries)) (sh .events));
-  under = padded 32 0 (map (λ s. underCode (s .under)) (statuses sh));
+unfoldable pub asHeads : M.Heads → Heads
+asHeads hd = record {
+  model = packed (hd .model);
+  fields = length (hd .fields);
+  events = length (hd .events);
+  stages = length (hd .stages);
+  miles = length (hd .miles);
+  names = padded 64 0 (map packed (allNames hd));
+  carried = padded 256 0 (joined (λ e. padded 16 0 (e .carries)) (hd .events));
+  carries = padded 16 0 (map (λ e. length (e .carries)) (hd .events));
+  under = padded 32 0 (map (λ s. underCode (s .under)) (statuses hd));
 }
 
 -- the tables of a refused sheet
@@ -69,15 +70,14 @@ eventAt h e = record { name = named (getD (h .names) (h .fields + e) 0); carries
 abbrev pub statusAt : Heads → ℕ → Status
 statusAt h x = record { name = named (getD (h .names) (h .fields + h .events + x) 0); under = underOf (getD (h .under) x 0) }
 
--- the sheet, with no rules
-unfoldable pub headsOf : Heads → Sheet
+-- what stands above the rules
+unfoldable pub headsOf : Heads → M.Heads
 headsOf h = record {
   model = named (h .model);
   fields = namesAt h 0 (h .fields);
   events = map (eventAt h) (from 0 (h .events));
   stages = map (statusAt h) (from 0 (h .stages));
   miles = map (statusAt h) (from (h .stages) (h .miles));
-  rules = [];
 }
 
 -- tables as a sheet that was read has them: counts within their limits, places within their tables

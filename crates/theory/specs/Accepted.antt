@@ -15,14 +15,14 @@ use Rattle.meaning.specs.Limits.{cardBytes}
 use Rattle.meaning.specs.Reading.{Reader, got, each, notEnded, stands, due, oneOf, lineEnd, paper}
 use Rattle.meaning.specs.Name.{Name}
 use Rattle.meaning.specs.Number.{Entry, endLine, decimal}
-use Rattle.meaning.specs.Sheet.{Sheet, Status, statuses, statusNames}
+use Rattle.meaning.specs.Sheet.{Heads, Status, statuses, statusNames}
 use Rattle.meaning.specs.Card.{fieldEntry, statusMark, ended, card, orphan, readCard, Put}
 use Rattle.meaning.specs.Step.{putIn}
 use Rattle.meaning.specs.Write.{line, lines, mark, cardText}
 use Rattle.meaning.specs.Doors.{Case}
 use Rattle.theory.specs.Lists.{in-cases, map-in, set-in}
 use Rattle.theory.specs.Names.{Good, good-short, dueName-again}
-use Rattle.theory.specs.Formed.{Each, Well}
+use Rattle.theory.specs.Formed.{Each, WellHeads}
 use Rattle.theory.specs.Entries.{Shown, Proper}
 use Rattle.theory.specs.Counts.{endLine-again, decimal-short}
 use Rattle.theory.specs.Cards.{PutIn}
@@ -69,13 +69,13 @@ card-parts m a b n =
     append-assoc (c ++ a) b e ∙ append-assoc c a (b ++ e) ∙ ap (λ z. text "case=" ++ z) (append-assoc m (10 ∷ []) (a ++ (b ++ e)))
 
 -- a card whose pieces are read
-card-pieces : (sh : Sheet) (es : List Entry) (bs : List Bool) (l i j : ℕ) (a b c : List ℕ) → Good (sh .model)
-    → each (λ n. ended (fieldEntry n)) (sh .fields) (suc l) (a ++ (b ++ c)) ≡ got es i (b ++ c)
-    → each (λ n. ended (statusMark n)) (statusNames (statuses sh)) i (b ++ c) ≡ got bs j c
+card-pieces : (hd : Heads) (es : List Entry) (bs : List Bool) (l i j : ℕ) (a b c : List ℕ) → Good (hd .model)
+    → each (λ n. ended (fieldEntry n)) (hd .fields) (suc l) (a ++ (b ++ c)) ≡ got es i (b ++ c)
+    → each (λ n. ended (statusMark n)) (statusNames (statuses hd)) i (b ++ c) ≡ got bs j c
     → endLine (length es + length bs) j c ≡ got tt (suc j) []
-    → card sh l (text "case=" ++ (sh .model ++ 10 ∷ (a ++ (b ++ c)))) ≡ got (record { entries = es; statuses = bs }) (suc j) []
+    → card hd l (text "case=" ++ (hd .model ++ 10 ∷ (a ++ (b ++ c)))) ≡ got (record { entries = es; statuses = bs }) (suc j) []
 unfolding card ended due notEnded stands begins run lineEnd
-card-pieces sh es bs l i j a b c g p q r = rw (dueName-again (sh .model) (10 ∷ (a ++ (b ++ c))) l g refl, p, q, r)
+card-pieces hd es bs l i j a b c g p q r = rw (dueName-again (hd .model) (10 ∷ (a ++ (b ++ c))) l g refl, p, q, r)
 
 -- HOW LONG A CARD IS
 
@@ -104,28 +104,28 @@ mark-length true = omega arith
 mark-length false = omega arith
 
 -- what is known of a sheet whose cards are written
-module _ (sh : Sheet) (well : Well sh) where
+module _ (hd : Heads) (well : WellHeads hd) where
   -- the names of the statuses are good
-  names-good : Each Good (statusNames (statuses sh))
+  names-good : Each Good (statusNames (statuses hd))
   unfolding statusNames statuses
   names-good n i =
-      let (s, j, e) = map-in (λ (s : Status). s .name) n (sh .stages ++ sh .miles) i in
-      rw e (⊎-elim (λ k. well .stages s k .name) (λ k. well .miles s k .name) (in-cases s (sh .stages) (sh .miles) j))
+      let (s, j, e) = map-in (λ (s : Status). s .name) n (hd .stages ++ hd .miles) i in
+      rw e (⊎-elim (λ k. well .stages s k .name) (λ k. well .miles s k .name) (in-cases s (hd .stages) (hd .miles) j))
 
   -- and as many as the statuses
-  names-length : length (statusNames (statuses sh)) ≡ length (statuses sh)
+  names-length : length (statusNames (statuses hd)) ≡ length (statuses hd)
   unfolding statusNames
-  names-length = length-map (statuses sh) (λ (s : Status). s .name)
+  names-length = length-map (statuses hd) (λ (s : Status). s .name)
 
-  module _ (es : List Entry) (bs : List Bool) (entries : length es ≡ length (sh .fields)) (marked : length bs ≡ length (statuses sh)) (proper : Each Proper es) where
+  module _ (es : List Entry) (bs : List Bool) (entries : length es ≡ length (hd .fields)) (marked : length bs ≡ length (statuses hd)) (proper : Each Proper es) where
     -- the lines of the fields
-    fields-length : length (lines (λ (e : Entry). e .shown) (sh .fields) es) ≤ length (sh .fields) * 25
-    fields-length = lines-length (λ (e : Entry). e .shown) 25 (sh .fields) es
+    fields-length : length (lines (λ (e : Entry). e .shown) (hd .fields) es) ≤ length (hd .fields) * 25
+    fields-length = lines-length (λ (e : Entry). e .shown) 25 (hd .fields) es
         (λ m i e j. omega (arith, line-length m (e .shown), good-short m (well .fields m i), proper e j .short))
 
     -- the lines of the statuses
-    marks-length : length (lines mark (statusNames (statuses sh)) bs) ≤ length (statusNames (statuses sh)) * 17
-    marks-length = lines-length mark 17 (statusNames (statuses sh)) bs
+    marks-length : length (lines mark (statusNames (statuses hd)) bs) ≤ length (statusNames (statuses hd)) * 17
+    marks-length = lines-length mark 17 (statusNames (statuses hd)) bs
         (λ m i b j. omega (arith, line-length m (mark b), good-short m (names-good m i), mark-length b))
 
     -- there are few
@@ -133,44 +133,44 @@ module _ (sh : Sheet) (well : Well sh) where
     count-small = omega (arith, well .fields-few, well .statuses-few)
 
     -- 18 + 16 * 25 + 32 * 17 + 7
-    pub card-length : length (cardText sh es bs) ≤ 969
+    pub card-length : length (cardText hd es bs) ≤ 969
     unfolding cardText
     card-length =
         let n = length es + length bs in
-        let c = line (text "case") (sh .model) in
+        let c = line (text "case") (hd .model) in
         let e = line (text "end") (decimal n) in
-        let q = four-length c (lines (λ (e : Entry). e .shown) (sh .fields) es) (lines mark (statusNames (statuses sh)) bs) e in
-        let m = good-short (sh .model) (well .model) in
+        let q = four-length c (lines (λ (e : Entry). e .shown) (hd .fields) es) (lines mark (statusNames (statuses hd)) bs) e in
+        let m = good-short (hd .model) (well .model) in
         let k = decimal-short n count-small in
-        omega (arith, fields-length, marks-length, q, line-length (text "case") (sh .model), line-length (text "end") (decimal n), m, k, names-length, well .fields-few, well .statuses-few)
+        omega (arith, fields-length, marks-length, q, line-length (text "case") (hd .model), line-length (text "end") (decimal n), m, k, names-length, well .fields-few, well .statuses-few)
 
     -- the lines of the fields are read back
-    fields-again : (l : ℕ) (t : List ℕ) → (k : ℕ) × (each (λ m. ended (fieldEntry m)) (sh .fields) l (lines (λ (e : Entry). e .shown) (sh .fields) es ++ t) ≡ got es k t)
-    fields-again = lines-again (λ (e : Entry). e .shown) (λ m. ended (fieldEntry m)) (sh .fields) es entries (λ m x e y. field-line m e (well .fields m x) (proper e y .shown))
+    fields-again : (l : ℕ) (t : List ℕ) → (k : ℕ) × (each (λ m. ended (fieldEntry m)) (hd .fields) l (lines (λ (e : Entry). e .shown) (hd .fields) es ++ t) ≡ got es k t)
+    fields-again = lines-again (λ (e : Entry). e .shown) (λ m. ended (fieldEntry m)) (hd .fields) es entries (λ m x e y. field-line m e (well .fields m x) (proper e y .shown))
 
     -- the lines of the statuses are read back
-    marks-again : (l : ℕ) (t : List ℕ) → (k : ℕ) × (each (λ m. ended (statusMark m)) (statusNames (statuses sh)) l (lines mark (statusNames (statuses sh)) bs ++ t) ≡ got bs k t)
-    marks-again = lines-again mark (λ m. ended (statusMark m)) (statusNames (statuses sh)) bs (marked ∙ sym names-length) (λ m x v y. status-line m v (names-good m x))
+    marks-again : (l : ℕ) (t : List ℕ) → (k : ℕ) × (each (λ m. ended (statusMark m)) (statusNames (statuses hd)) l (lines mark (statusNames (statuses hd)) bs ++ t) ≡ got bs k t)
+    marks-again = lines-again mark (λ m. ended (statusMark m)) (statusNames (statuses hd)) bs (marked ∙ sym names-length) (λ m x v y. status-line m v (names-good m x))
 
     -- the card is read back
-    card-lines : (l : ℕ) → (k : ℕ) × (card sh l (cardText sh es bs) ≡ got (record { entries = es; statuses = bs }) k [])
+    card-lines : (l : ℕ) → (k : ℕ) × (card hd l (cardText hd es bs) ≡ got (record { entries = es; statuses = bs }) k [])
     unfolding cardText
     card-lines l =
         let n = length es + length bs in
-        let a = lines (λ (e : Entry). e .shown) (sh .fields) es in
-        let b = lines mark (statusNames (statuses sh)) bs in
+        let a = lines (λ (e : Entry). e .shown) (hd .fields) es in
+        let b = lines mark (statusNames (statuses hd)) bs in
         let c = text "end=" ++ (decimal n ++ 10 ∷ []) in
         let (i, p) = fields-again (suc l) (b ++ c) in
         let (j, q) = marks-again i c in
-        let r = card-pieces sh es bs l i j a b c (well .model) p q (endLine-again n j count-small) in
-        (suc j, rw (card-parts (sh .model) a b (decimal n)) r)
+        let r = card-pieces hd es bs l i j a b c (well .model) p q (endLine-again n j count-small) in
+        (suc j, rw (card-parts (hd .model) a b (decimal n)) r)
 
     -- a card as it is written is taken, where no stage is an orphan
-    pub card-again : orphan bs 0 (sh .stages) ≡ none → readCard sh (cardText sh es bs) ≡ taken (record { entries = es; statuses = bs })
+    pub card-again : orphan bs 0 (hd .stages) ≡ none → readCard hd (cardText hd es bs) ≡ taken (record { entries = es; statuses = bs })
     unfolding readCard paper
     card-again o =
         let (k, q) = card-lines 1 in
-        rw (le-leb (length (cardText sh es bs)) cardBytes (omega (arith, card-length)), q, o)
+        rw (le-leb (length (cardText hd es bs)) cardBytes (omega (arith, card-length)), q, o)
 
 -- A STEP'S RESULT
 
@@ -189,14 +189,14 @@ put-proper m (p ∷ ps) es h g = put-proper m ps (set es (p .field) (p .entry)) 
 
 -- with the event's values put in there is again an entry for each field, each as it is read
 pub case-entries : (k : Case) → Papers k
-    → (length (putIn (k .happening .puts) (k .card .entries)) ≡ length (k .sheet .fields)) × Each Proper (putIn (k .happening .puts) (k .card .entries))
+    → (length (putIn (k .happening .puts) (k .card .entries)) ≡ length (k .sheet .heads .fields)) × Each Proper (putIn (k .happening .puts) (k .card .entries))
 case-entries k p = (
   put-length (k .happening .puts) (k .card .entries) ∙ p .entries,
-  put-proper (length (k .sheet .fields)) (k .happening .puts) (k .card .entries) (p .happening .puts) (p .proper),
+  put-proper (length (k .sheet .heads .fields)) (k .happening .puts) (k .card .entries) (p .happening .puts) (p .proper),
 )
 
 -- the next card is accepted where its statuses are sheltered
-pub next-accepted : (k : Case) → Papers k → (after : List Bool) → length after ≡ length (statuses (k .sheet)) → orphan after 0 (k .sheet .stages) ≡ none
-    → readCard (k .sheet) (cardText (k .sheet) (putIn (k .happening .puts) (k .card .entries)) after)
+pub next-accepted : (k : Case) → Papers k → (after : List Bool) → length after ≡ length (statuses (k .sheet .heads)) → orphan after 0 (k .sheet .heads .stages) ≡ none
+    → readCard (k .sheet .heads) (cardText (k .sheet .heads) (putIn (k .happening .puts) (k .card .entries)) after)
     ≡ taken (record { entries = putIn (k .happening .puts) (k .card .entries); statuses = after })
-next-accepted k p after m o = let (e, q) = case-entries k p in card-again (k .sheet) (p .well) (putIn (k .happening .puts) (k .card .entries)) after e m q o
+next-accepted k p after m o = let (e, q) = case-entries k p in card-again (k .sheet .heads) (p .well .heads) (putIn (k .happening .puts) (k .card .entries)) after e m q o

@@ -1,82 +1,67 @@
--- Two fillings on which every comparison of the sheet answers the same lead to the same card.
-use Prim.Native.Nat.{ℕ, suc}
+-- Two fillings on which every comparison of the tests answers the same lead to the same card.
+use Prim.Native.Nat.{ℕ}
 use mathlib.Core.Path.{_≡_, refl, ap, ap₂}
 use mathlib.Core.Bool.{Bool, _&&_}
 use mathlib.Core.List.{List, [], _∷_}
 use mathlib.Core.Option.{Option, none, some}
-use mathlib.Core.Logic.{inl, inr, ⊎-elim}
 use lib.ListN.{getD}
 use Rattle.meaning.specs.Text.{In}
 use Rattle.meaning.specs.Kleene.{known₃, isTrue}
 use Rattle.meaning.specs.Number.{Value, missing}
 use Rattle.meaning.specs.Condition.{Comparison, Leaf, Cond, compared, valueL}
-use Rattle.meaning.specs.Sheet.{Sheet, Status, Sign, plus, minus, Trigger, always, event, rise, fall, Rule, stageOver, leavesOf, leaves}
+use Rattle.meaning.specs.Sheet.{Trigger, always, event, rise, fall, leavesOf}
 use Rattle.meaning.specs.Card.{is}
-use Rattle.meaning.specs.Dependency.{closing, impliedFrom, allRules, rulesFor}
-use Rattle.meaning.specs.Step.{Moment, allowed, triggered, fulfilled, housed, holds, someHolds, setIf, runOn, leadsTo}
+use Rattle.meaning.specs.Tests.{Test, leavesIn}
+use Rattle.meaning.specs.Dependency.{testsFor}
+use Rattle.meaning.specs.Step.{Moment, allowed, needed, triggered, fulfilled, housed, holds, someHolds, setIf, runOn, leadsTo}
 use Rattle.meaning.specs.Outlook.{filledWith}
-use Rattle.theory.specs.Lists.{in-cases, in-joined, any-same}
+use Rattle.theory.specs.Lists.{in-joined, any-same}
 use Rattle.theory.specs.Values.{value-same}
-use Rattle.theory.specs.Rules.{rule-of}
+use Rattle.theory.specs.Rules.{test-of}
 
--- an implied rule has no condition
-closing-bare : (x : ℕ) (p : Option ℕ) (r : Rule) → In r (closing x p) → r .condition ≡ none
-closing-bare x none r h = absurd h
-closing-bare x (some p) r (inl e) = ap (λ (q : Rule). q .condition) e
-closing-bare x (some p) r (inr h) = absurd h
+-- the leaves of a test are among those of all
+test-leaves : (ts : List Test) (t : Test) → In t ts → (x : Leaf) → In x (leavesOf (t .condition)) → In x (leavesIn ts)
+unfolding leavesIn
+test-leaves ts t h x i = in-joined (λ (u : Test). leavesOf (u .condition)) t x ts h i
 
-implied-bare : (x : ℕ) (ss : List Status) (r : Rule) → In r (impliedFrom x ss) → r .condition ≡ none
-unfolding impliedFrom
-implied-bare x [] r h = absurd h
-implied-bare x (s ∷ ss) r h = ⊎-elim (closing-bare x (s .under) r) (implied-bare (suc x) ss r) (in-cases r (closing x (s .under)) (impliedFrom (suc x) ss) h)
-
--- the leaves of a rule, written or implied, stand on the sheet
-rule-leaves : (sh : Sheet) (r : Rule) → In r (allRules sh) → (x : Leaf) → In x (leavesOf (r .condition)) → In x (leaves (sh .rules))
-unfolding allRules leaves leavesOf
-rule-leaves sh r h x i = ⊎-elim
-    (λ k. in-joined (λ (q : Rule). leavesOf (q .condition)) r x (sh .rules) k i)
-    (λ k. absurd (rw (implied-bare 0 (sh .stages) r k) at i))
-    (in-cases r (sh .rules) (impliedFrom 0 (sh .stages)) h)
-
-module _ (sh : Sheet) (m : Moment) (v w : List Value)
-    (same : (c : Comparison) → In (Leaf.compare c) (leaves (sh .rules)) → compared c (getD v (c .field) missing) ≡ compared c (getD w (c .field) missing)) (side : List Bool) where
-  alike-leaf : (x : Leaf) → In x (leaves (sh .rules)) → valueL (λ y. known₃ (is side y)) (λ f. getD v f missing) x ≡ valueL (λ y. known₃ (is side y)) (λ f. getD w f missing) x
+module _ (ts : List Test) (m : Moment) (v w : List Value)
+    (same : (c : Comparison) → In (Leaf.compare c) (leavesIn ts) → compared c (getD v (c .field) missing) ≡ compared c (getD w (c .field) missing)) (side : List Bool) where
+  alike-leaf : (x : Leaf) → In x (leavesIn ts) → valueL (λ y. known₃ (is side y)) (λ f. getD v f missing) x ≡ valueL (λ y. known₃ (is side y)) (λ f. getD w f missing) x
   unfolding valueL
   alike-leaf (Leaf.status x) i = refl
   alike-leaf (Leaf.compare c) i = same c i
 
-  alike-fulfilled : (e : Option Cond) → ((x : Leaf) → In x (leavesOf e) → In x (leaves (sh .rules))) → fulfilled sh (filledWith m v) side e ≡ fulfilled sh (filledWith m w) side e
+  alike-fulfilled : (e : Option Cond) → ((x : Leaf) → In x (leavesOf e) → In x (leavesIn ts)) → fulfilled (filledWith m v) side e ≡ fulfilled (filledWith m w) side e
   unfolding fulfilled leavesOf filledWith
   alike-fulfilled none h = refl
   alike-fulfilled (some e) h = ap isTrue (value-same _ _ _ _ e (λ x i. alike-leaf x (h x i)))
 
-  alike-allowed : (g : Sign) (x : ℕ) → allowed sh (filledWith m v) side g x ≡ allowed sh (filledWith m w) side g x
-  unfolding allowed filledWith
-  alike-allowed plus x = refl
-  alike-allowed minus x = refl
+  alike-needed : (s : Option ℕ) → needed (filledWith m v) side s ≡ needed (filledWith m w) side s
+  unfolding needed filledWith
+  alike-needed none = refl
+  alike-needed (some s) = refl
 
-  alike-triggered : (t : Trigger) → triggered sh (filledWith m v) side t ≡ triggered sh (filledWith m w) side t
+  alike-triggered : (t : Trigger) → triggered (filledWith m v) side t ≡ triggered (filledWith m w) side t
   unfolding triggered filledWith
   alike-triggered always = refl
   alike-triggered (event e) = refl
   alike-triggered (rise y) = refl
   alike-triggered (fall y) = refl
 
-  alike-housed : (g : Sign) (h : Option ℕ) → housed sh (filledWith m v) side g h ≡ housed sh (filledWith m w) side g h
+  alike-housed : (h : Option ℕ) → housed (filledWith m v) side h ≡ housed (filledWith m w) side h
   unfolding housed
-  alike-housed plus none = refl
-  alike-housed plus (some p) = refl
-  alike-housed minus h = refl
+  alike-housed none = refl
+  alike-housed (some p) = refl
 
-  alike-holds : (r : Rule) → In r (allRules sh) → holds sh (filledWith m v) side r ≡ holds sh (filledWith m w) side r
-  unfolding holds
-  alike-holds r h = ap₂ _&&_ (ap₂ _&&_ (ap₂ _&&_ (alike-allowed (r .sign) (r .status)) (alike-triggered (r .trigger))) (alike-fulfilled (r .condition) (rule-leaves sh r h)))
-      (alike-housed (r .sign) (stageOver sh (r .status)))
+  alike-holds : (t : Test) → In t ts → holds (filledWith m v) side t ≡ holds (filledWith m w) side t
+  unfolding holds filledWith
+  alike-holds t h = ap₂ _&&_ (ap₂ _&&_ (ap₂ _&&_ (ap (λ b. allowed (m .before) (t .node) && b) (alike-needed (t .needs))) (alike-triggered (t .trigger))) (alike-housed (t .home)))
+      (alike-fulfilled (t .condition) (test-leaves ts t h))
 
-  -- every node's test answers the same
-  pub alike-test : (k : ℕ) → someHolds sh (filledWith m v) side k ≡ someHolds sh (filledWith m w) side k
+  -- every node's tests answer the same
+  pub alike-test : (k : ℕ) → someHolds (filledWith m v) side ts k ≡ someHolds (filledWith m w) side ts k
   unfolding someHolds
-  alike-test k = any-same (holds sh (filledWith m v) side) (holds sh (filledWith m w) side) (rulesFor sh k) (λ r i. alike-holds r (rule-of sh k r i .0))
+  alike-test k = any-same (holds (filledWith m v) side) (holds (filledWith m w) side) (testsFor ts k) (λ t i. alike-holds t (test-of ts k t i .0))
 
 -- a run reads its test alone
 run-same : (test tesu : List Bool → ℕ → Bool) → ((c : List Bool) (k : ℕ) → test c k ≡ tesu c k) → (o : List ℕ) (c : List Bool) → runOn test o c ≡ runOn tesu o c
@@ -85,8 +70,8 @@ run-same test tesu h [] c = refl
 run-same test tesu h (k ∷ o) c = rw (h c k) (run-same test tesu h o (setIf (tesu c k) k c))
 
 -- the pattern of a step depends on what the comparisons answer, and on nothing else of the values
-pub alike-leads : (sh : Sheet) (m : Moment) (v w : List Value)
-    → ((c : Comparison) → In (Leaf.compare c) (leaves (sh .rules)) → compared c (getD v (c .field) missing) ≡ compared c (getD w (c .field) missing))
-    → (o : List ℕ) → leadsTo sh (filledWith m v) o ≡ leadsTo sh (filledWith m w) o
+pub alike-leads : (ts : List Test) (m : Moment) (v w : List Value)
+    → ((c : Comparison) → In (Leaf.compare c) (leavesIn ts) → compared c (getD v (c .field) missing) ≡ compared c (getD w (c .field) missing))
+    → (o : List ℕ) → leadsTo ts (filledWith m v) o ≡ leadsTo ts (filledWith m w) o
 unfolding leadsTo filledWith
-alike-leads sh m v w same o = run-same (someHolds sh (filledWith m v)) (someHolds sh (filledWith m w)) (alike-test sh m v w same) o (m .before)
+alike-leads ts m v w same o = run-same (λ c. someHolds (filledWith m v) c ts) (λ c. someHolds (filledWith m w) c ts) (alike-test ts m v w same) o (m .before)

@@ -11,7 +11,7 @@ use Rattle.meaning.specs.Reading.{Reader}
 use Rattle.meaning.specs.Name.{Name}
 use Rattle.meaning.specs.Condition.{Item, leavesA, leavesI}
 use Rattle.meaning.specs.ReadCondition.{operator, readAnd, readCond, named, readLeaf, itemWith, readItem, condition}
-use Rattle.meaning.specs.Sheet.{Sheet, Event, Status, Rule, statuses, statusNames, eventNames, leaves}
+use Rattle.meaning.specs.Sheet.{Heads, Event, Status, Rule, statuses, statusNames, eventNames, leaves}
 use Rattle.meaning.specs.ReadSheet.{section, fieldRow, carried, eventRow, status, stageRow, mileRow, signs, trigger, ruleRow, rulesOf, heads, sheet}
 use Rattle.meaning.specs.Card.{fieldEntry, marks, statusMark, ended, card, carriedBy, put, happening}
 use Rattle.theory.specs.Built.{BuiltIn, Built, give-built, refuse-built, choose-built, bind-built, notEnded-built, paperEnd-built, stands-built, Fault, line-fault, name-fault, cond-fault, full-fault, demand-built, due-built, oneOf-built, lineEnd-built, each-built, name-built, newName-built, dueName-built, known-built, number-built, entry-built, endLine-built}
@@ -189,8 +189,8 @@ heads-built =
 pub sheet-built : Built sheet
 unfolding sheet
 sheet-built =
-    bind-built heads-built λ sh.
-    bind-built (rules-built (sh .fields) (eventNames (sh .events)) (statusNames (statuses sh))) λ rules.
+    bind-built heads-built λ hd.
+    bind-built (rules-built (hd .fields) (eventNames (hd .events)) (statusNames (statuses hd))) λ rules.
     give-built
 
 -- THE CARD AND THE EVENT LINE
@@ -220,30 +220,30 @@ ended-built h =
     give-built
 
 -- the card
-pub card-built : (sh : Sheet) → Built (card sh)
+pub card-built : (hd : Heads) → Built (card hd)
 unfolding card
-card-built sh =
+card-built hd =
     bind-built (due-built (text "case=") line-fault) λ _.
-    bind-built (ended-built (dueName-built (sh .model))) λ _.
-    bind-built (each-built (λ n. ended-built (entry-line-built n)) (sh .fields)) λ es.
-    bind-built (each-built (λ n. ended-built (mark-line-built n)) (statusNames (statuses sh))) λ ss.
+    bind-built (ended-built (dueName-built (hd .model))) λ _.
+    bind-built (each-built (λ n. ended-built (entry-line-built n)) (hd .fields)) λ es.
+    bind-built (each-built (λ n. ended-built (mark-line-built n)) (statusNames (statuses hd))) λ ss.
     bind-built (endLine-built (length es + length ss)) λ _.
     give-built
 
 -- what is put into a field
-pub put-built : {e : Bool} (sh : Sheet) (f : ℕ) → BuiltIn e (put sh f)
+pub put-built : {e : Bool} (hd : Heads) (f : ℕ) → BuiltIn e (put hd f)
 unfolding put
-put-built sh f =
+put-built hd f =
     bind-built (due-built (text " ") line-fault) λ _.
-    bind-built (entry-line-built (getD (sh .fields) f [])) λ e.
+    bind-built (entry-line-built (getD (hd .fields) f [])) λ e.
     give-built
 
 -- the event line
-pub happening-built : (sh : Sheet) → Built (happening sh)
+pub happening-built : (hd : Heads) → Built (happening hd)
 unfolding happening
-happening-built sh =
-    bind-built (known-built (eventNames (sh .events))) λ i.
-    bind-built (each-built (put-built sh) (carriedBy sh i)) λ ps.
+happening-built hd =
+    bind-built (known-built (eventNames (hd .events))) λ i.
+    bind-built (each-built (put-built hd) (carriedBy hd i)) λ ps.
     bind-built (lineEnd-built line-fault) λ _.
     bind-built paperEnd-built λ _.
     give-built

@@ -9,18 +9,18 @@ use Rattle.meaning.specs.Refusal.{LINE}
 use Rattle.meaning.specs.Reading.{Reader, due, lineEnd, paperEnd}
 use Rattle.meaning.specs.Name.{Name, dueName}
 use Rattle.meaning.specs.Number.{Entry, endLine}
-use Rattle.meaning.specs.Sheet.{Sheet, Event, Status, statuses, statusNames, eventNames}
+use Rattle.meaning.specs.Sheet.{Heads, Event, Status, statuses, statusNames, eventNames}
 use Rattle.meaning.specs.Card.{Card, fieldEntry, statusMark, ended, card, Put, Happening, carriedBy, put, happening}
 use Rattle.theory.specs.Readers.{Ensures, give-ensures, bind-ensures, any-ensures, along-length, along-in, along-map, each-along, each-length}
 use Rattle.theory.specs.Names.{known-below}
-use Rattle.theory.specs.Formed.{Each, EventIn, Well}
+use Rattle.theory.specs.Formed.{Each, EventIn, WellHeads}
 use Rattle.theory.specs.Entries.{Proper, entry-proper}
 
 -- a card of this sheet
-pub record CardIn (sh : Sheet) (c : Card) : Type 0 where
-  pub entries : length (c .entries) ≡ length (sh .fields)
+pub record CardIn (hd : Heads) (c : Card) : Type 0 where
+  pub entries : length (c .entries) ≡ length (hd .fields)
   pub proper : Each Proper (c .entries)
-  pub marked : length (c .statuses) ≡ length (statuses sh)
+  pub marked : length (c .statuses) ≡ length (statuses hd)
 
 -- the entry of a field
 field-proper : (n : Name) → Ensures (fieldEntry n) Proper
@@ -39,18 +39,18 @@ ended-ensures h =
     give-ensures p
 
 -- whatever is read as a card has an entry for each field and a mark for each status
-pub card-marked : (sh : Sheet) → Ensures (card sh) (CardIn sh)
+pub card-marked : (hd : Heads) → Ensures (card hd) (CardIn hd)
 unfolding card statusNames
-card-marked sh =
+card-marked hd =
     any-ensures (due LINE (text "case=")) λ _.
-    any-ensures (ended (dueName (sh .model))) λ _.
-    bind-ensures (each-along {R = λ e n. Proper e} (λ n. ended-ensures (field-proper n)) (sh .fields)) λ es he.
-    bind-ensures (each-length (λ n. ended (statusMark n)) (statusNames (statuses sh))) λ ss hs.
+    any-ensures (ended (dueName (hd .model))) λ _.
+    bind-ensures (each-along {R = λ e n. Proper e} (λ n. ended-ensures (field-proper n)) (hd .fields)) λ es he.
+    bind-ensures (each-length (λ n. ended (statusMark n)) (statusNames (statuses hd))) λ ss hs.
     any-ensures (endLine (length es + length ss)) λ _.
     give-ensures (record {
-      entries = along-length (λ (e : Entry) (n : Name). Proper e) es (sh .fields) he;
-      proper = λ e i. along-in (λ (e : Entry) (n : Name). Proper e) es (sh .fields) he e i .2;
-      marked = hs ∙ length-map (statuses sh) (λ (s : Status). s .name);
+      entries = along-length (λ (e : Entry) (n : Name). Proper e) es (hd .fields) he;
+      proper = λ e i. along-in (λ (e : Entry) (n : Name). Proper e) es (hd .fields) he e i .2;
+      marked = hs ∙ length-map (statuses hd) (λ (s : Status). s .name);
     })
 
 -- what is put into one of m fields
@@ -59,17 +59,17 @@ pub record PutIn (m : ℕ) (p : Put) : Type 0 where
   pub proper : Proper (p .entry)
 
 -- an event line of this sheet: one of its events, with values for just the fields that this one carries, in their order
-pub record HappeningIn (sh : Sheet) (h : Happening) : Type 0 where
-  pub event : h .event < length (sh .events)
-  pub puts : Each (PutIn (length (sh .fields))) (h .puts)
-  pub carried : map (λ p. p .field) (h .puts) ≡ carriedBy sh (h .event)
+pub record HappeningIn (hd : Heads) (h : Happening) : Type 0 where
+  pub event : h .event < length (hd .events)
+  pub puts : Each (PutIn (length (hd .fields))) (h .puts)
+  pub carried : map (λ p. p .field) (h .puts) ≡ carriedBy hd (h .event)
 
 -- what is put into the field f
-pub put-proper : (sh : Sheet) (f : ℕ) → Ensures (put sh f) (λ p. (p .field ≡ f) × Proper (p .entry))
+pub put-proper : (hd : Heads) (f : ℕ) → Ensures (put hd f) (λ p. (p .field ≡ f) × Proper (p .entry))
 unfolding put
-put-proper sh f =
+put-proper hd f =
     any-ensures (due LINE (text " ")) λ _.
-    bind-ensures (field-proper (getD (sh .fields) f [])) λ e h.
+    bind-ensures (field-proper (getD (hd .fields) f [])) λ e h.
     give-ensures (refl, h)
 
 -- the fields that the event at a place carries
@@ -79,17 +79,17 @@ carries-in m (e ∷ es) h zero = h e (inl refl) .carries
 carries-in m (e ∷ es) h (suc i) = carries-in m es (λ x j. h x (inr j)) i
 
 -- whatever is read as an event line
-pub happening-in : (sh : Sheet) → Well sh → Ensures (happening sh) (HappeningIn sh)
+pub happening-in : (hd : Heads) → WellHeads hd → Ensures (happening hd) (HappeningIn hd)
 unfolding happening eventNames carriedBy
-happening-in sh w =
-    bind-ensures (known-below (eventNames (sh .events))) λ i hi.
-    bind-ensures (each-along (put-proper sh) (carriedBy sh i)) λ ps hp.
+happening-in hd w =
+    bind-ensures (known-below (eventNames (hd .events))) λ i hi.
+    bind-ensures (each-along (put-proper hd) (carriedBy hd i)) λ ps hp.
     any-ensures (lineEnd LINE) λ _.
     any-ensures paperEnd λ _.
     give-ensures (record {
-      event = rw (length-map (sh .events) (λ (e : Event). e .name)) at hi;
+      event = rw (length-map (hd .events) (λ (e : Event). e .name)) at hi;
       puts = λ p j.
-          let (f, m, (e, h)) = along-in (λ (p : Put) (f : ℕ). (p .field ≡ f) × Proper (p .entry)) ps (carriedBy sh i) hp p j in
-          record { field = rw e (carries-in (length (sh .fields)) (sh .events) (w .events) i f m); proper = h };
-      carried = along-map (λ (p : Put) (f : ℕ). (p .field ≡ f) × Proper (p .entry)) (λ p. p .field) (λ p f h. h .0) ps (carriedBy sh i) hp;
+          let (f, m, (e, h)) = along-in (λ (p : Put) (f : ℕ). (p .field ≡ f) × Proper (p .entry)) ps (carriedBy hd i) hp p j in
+          record { field = rw e (carries-in (length (hd .fields)) (hd .events) (w .events) i f m); proper = h };
+      carried = along-map (λ (p : Put) (f : ℕ). (p .field ≡ f) × Proper (p .entry)) (λ p. p .field) (λ p f h. h .0) ps (carriedBy hd i) hp;
     })

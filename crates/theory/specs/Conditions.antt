@@ -11,10 +11,10 @@ use lib.Dec.{ltb}
 use Rattle.meaning.specs.Text.{In, text, find}
 use Rattle.meaning.specs.Refusal.{COND, FULL}
 use Rattle.meaning.specs.Limits.{leafLimit, nestLimit}
-use Rattle.meaning.specs.Reading.{Reader, refuse, demand, notEnded, stands, due}
+use Rattle.meaning.specs.Reading.{Reader, refuse, notEnded, stands, due}
 use Rattle.meaning.specs.Name.{Name, name}
 use Rattle.meaning.specs.Number.{number}
-use Rattle.meaning.specs.Condition.{Leaf, Cond, And, Item, leavesC, leavesA, leavesI}
+use Rattle.meaning.specs.Condition.{Leaf, Item, leavesC, leavesA, leavesI}
 use Rattle.meaning.specs.ReadCondition.{operator, named, readLeaf, readAnd, readCond, itemWith, readItem, condition}
 use Rattle.theory.specs.Lists.{in-cases}
 use Rattle.theory.specs.Readers.{Ensures, give-ensures, refuse-ensures, choose-ensures, demand-ensures, bind-ensures, any-ensures, ensures-weaker}

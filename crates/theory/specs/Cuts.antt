@@ -8,10 +8,10 @@ use native.Mathlib.Omega.{arith}
 use native.Mathlib.Decide.{ℕ-discrete, decLt, decLe}
 use lib.Dec.{leb, ltb}
 use borrow.Author.Tests.{ne-eqb, lt-ltb, le-ltb, ltb-true, leb-true, le-leb, lt-leb}
-use Rattle.meaning.specs.Text.{In, any, keep, joined}
+use Rattle.meaning.specs.Text.{In, keep, joined}
 use Rattle.meaning.specs.Number.{limit}
 use Rattle.meaning.specs.Condition.{Operator, below, atMost, equal, atLeast, above, Comparison, answers}
-use Rattle.meaning.specs.Sheet.{Sheet}
+use Rattle.meaning.specs.Tests.{Test}
 use Rattle.meaning.specs.Outlook.{comparisons, cutsAt, isCut, cuts}
 use Rattle.theory.specs.Lists.{in-joined, joined-in, in-any, any-in, in-keep, keep-in}
 use Rattle.theory.specs.Ascending.{ascending-old, ascending-only}
@@ -91,37 +91,37 @@ module _ (c : Comparison) (v : ℕ) where
       go true e = refl
       go false e = absurd (true≢false e)
 
-module _ (sh : Sheet) (f : ℕ) where
+module _ (ts : List Test) (f : ℕ) where
   abbrev near : Comparison → List ℕ
   near c = keep (cutsAt c) (c .number ∷ suc (c .number) ∷ [])
 
   -- each cut is listed
-  pub cut-listed : (c : Comparison) (v : ℕ) → In c (comparisons sh f) → cutsAt c v ≡ true → In v (cuts sh f)
+  pub cut-listed : (c : Comparison) (v : ℕ) → In c (comparisons ts f) → cutsAt c v ≡ true → In v (cuts ts f)
   unfolding cuts
-  cut-listed c v h t = ascending-old v (joined near (comparisons sh f))
-      (in-joined near c v (comparisons sh f) h
+  cut-listed c v h t = ascending-old v (joined near (comparisons ts f))
+      (in-joined near c v (comparisons ts f) h
       (in-keep (cutsAt c) v (c .number ∷ suc (c .number) ∷ []) (⊎-elim (λ e. inl e) (λ e. inr (inl e)) (cut-where c v t .1)) t))
 
   -- and nothing else
-  pub listed-cut : (v : ℕ) → In v (cuts sh f) → (c : Comparison) × In c (comparisons sh f) × (cutsAt c v ≡ true)
+  pub listed-cut : (v : ℕ) → In v (cuts ts f) → (c : Comparison) × In c (comparisons ts f) × (cutsAt c v ≡ true)
   unfolding cuts
   listed-cut v h =
-      let (c, i, k) = joined-in near v (comparisons sh f) (ascending-only v (joined near (comparisons sh f)) h) in
+      let (c, i, k) = joined-in near v (comparisons ts f) (ascending-only v (joined near (comparisons ts f)) h) in
       (c, i, keep-in (cutsAt c) v (c .number ∷ suc (c .number) ∷ []) k .1)
 
   -- "some comparison of that field on the sheet answers differently": the cuts computed are the cuts
-  pub cuts-exactly : (v : ℕ) → In v (cuts sh f) ↔ (isCut sh f v ≡ true)
+  pub cuts-exactly : (v : ℕ) → In v (cuts ts f) ↔ (isCut ts f v ≡ true)
   unfolding isCut
   cuts-exactly v = (
-    λ h. let (c, i, t) = listed-cut v h in in-any (λ d. cutsAt d v) c (comparisons sh f) i t,
-    λ t. let (c, i, q) = any-in (λ d. cutsAt d v) (comparisons sh f) t in cut-listed c v i q,
+    λ h. let (c, i, t) = listed-cut v h in in-any (λ d. cutsAt d v) c (comparisons ts f) i t,
+    λ t. let (c, i, q) = any-in (λ d. cutsAt d v) (comparisons ts f) t in cut-listed c v i q,
   )
 
-  pub listed-range : (v : ℕ) → In v (cuts sh f) → v ≤ limit
+  pub listed-range : (v : ℕ) → In v (cuts ts f) → v ≤ limit
   listed-range v h = let (c, i, t) = listed-cut v h in cut-where c v t .0
 
   -- where no cut lies above r and up to r + n, a comparison of the field answers the same at both
-  pub same-part : (c : Comparison) → In c (comparisons sh f) → (r n : ℕ) → r + n ≤ limit → ((v : ℕ) → r < v → v ≤ r + n → In v (cuts sh f) → ⊥)
+  pub same-part : (c : Comparison) → In c (comparisons ts f) → (r n : ℕ) → r + n ≤ limit → ((v : ℕ) → r < v → v ≤ r + n → In v (cuts ts f) → ⊥)
       → answers (c .operator) (c .number) r ≡ answers (c .operator) (c .number) (r + n)
   same-part c i r zero h out = ap (λ w. answers (c .operator) (c .number) w) (omega arith)
   same-part c i r (suc n) h out =

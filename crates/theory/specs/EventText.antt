@@ -7,12 +7,12 @@ use mathlib.Core.Option.{Option, none, some}
 use native.Mathlib.Omega.{arith}
 use lib.ListN.{length, getD}
 use Rattle.meaning.specs.Text.{text, same, find, later, joined}
-use Rattle.meaning.specs.Refusal.{taken, LINE, NAME}
+use Rattle.meaning.specs.Refusal.{taken, LINE}
 use Rattle.meaning.specs.Limits.{eventBytes}
-use Rattle.meaning.specs.Reading.{Reader, each, due, lineEnd, paperEnd, paper}
+use Rattle.meaning.specs.Reading.{each, lineEnd, paperEnd}
 use Rattle.meaning.specs.Name.{Name, known, placed}
 use Rattle.meaning.specs.Number.{entry}
-use Rattle.meaning.specs.Sheet.{Sheet, eventNames}
+use Rattle.meaning.specs.Sheet.{Heads, eventNames}
 use Rattle.meaning.specs.Card.{fieldEntry, Put, Happening, carriedBy, put, happening, readEvent}
 use Rattle.theory.specs.Readers.{Yields, got-yields, wrong-yields, bind-yields, any-yields, Holds, paper-read}
 use Rattle.theory.specs.Names.{same-equal}
@@ -22,12 +22,12 @@ use Rattle.theory.specs.Entries.{entry-spells}
 -- THE TEXT OF AN EVENT LINE
 
 -- "a space and `FIELD=` and a number or `?`"
-unfoldable pub putText : Sheet → Put → List ℕ
-putText sh p = text " " ++ (getD (sh .fields) (p .field) [] ++ text "=" ++ p .entry .shown)
+unfoldable pub putText : Heads → Put → List ℕ
+putText hd p = text " " ++ (getD (hd .fields) (p .field) [] ++ text "=" ++ p .entry .shown)
 
 -- "the event's name, then for each field it carries, .., then LF"
-unfoldable pub eventText : Sheet → Happening → List ℕ
-eventText sh h = getD (eventNames (sh .events)) (h .event) [] ++ joined (putText sh) (h .puts) ++ text "\n"
+unfoldable pub eventText : Heads → Happening → List ℕ
+eventText hd h = getD (eventNames (hd .events)) (h .event) [] ++ joined (putText hd) (h .puts) ++ text "\n"
 
 -- THE TEXT OF EACH PIECE
 
@@ -68,20 +68,20 @@ field-spells n =
     bind-spells (due-spells LINE (text "=")) λ y.
     behind-spells (n ++ text "=") entry-spells
 
-put-spells : (sh : Sheet) (f : ℕ) → Spells [] (put sh f) (putText sh)
+put-spells : (hd : Heads) (f : ℕ) → Spells [] (put hd f) (putText hd)
 unfolding put putText
-put-spells sh f =
+put-spells hd f =
     bind-spells (due-spells LINE (text " ")) λ x.
-    bind-spells (field-spells (getD (sh .fields) f [])) λ e.
+    bind-spells (field-spells (getD (hd .fields) f [])) λ e.
     give-spells refl
 
 -- each put, in the order in which the event carries them
-puts-spells : (sh : Sheet) (fs : List ℕ) → Spells [] (each (put sh) fs) (joined (putText sh))
+puts-spells : (hd : Heads) (fs : List ℕ) → Spells [] (each (put hd) fs) (joined (putText hd))
 unfolding each joined
-puts-spells sh [] = give-spells refl
-puts-spells sh (f ∷ fs) =
-    bind-spells (put-spells sh f) λ p.
-    bind-spells (puts-spells sh fs) λ ps.
+puts-spells hd [] = give-spells refl
+puts-spells hd (f ∷ fs) =
+    bind-spells (put-spells hd f) λ p.
+    bind-spells (puts-spells hd fs) λ ps.
     give-spells refl
 
 -- nothing stands behind the line
@@ -99,27 +99,27 @@ paperEnd-ends l [] = got-yields refl
 paperEnd-ends l (x ∷ s) = wrong-yields
 
 -- all of it
-happening-spells : (sh : Sheet) → Spells [] (happening sh) (eventText sh)
+happening-spells : (hd : Heads) → Spells [] (happening hd) (eventText hd)
 unfolding happening eventText
-happening-spells sh =
-    bind-spells (known-spells (eventNames (sh .events))) λ i.
-    bind-spells (puts-spells sh (carriedBy sh i)) λ ps.
+happening-spells hd =
+    bind-spells (known-spells (eventNames (hd .events))) λ i.
+    bind-spells (puts-spells hd (carriedBy hd i)) λ ps.
     bind-spells (lineEnd-spells LINE) λ x.
     bind-spells paperEnd-spells λ y.
     give-spells (append-nil _)
 
-happening-ends : (sh : Sheet) (l : ℕ) (s : List ℕ) → Yields (happening sh l s) (λ h t. t ≡ [])
+happening-ends : (hd : Heads) (l : ℕ) (s : List ℕ) → Yields (happening hd l s) (λ h t. t ≡ [])
 unfolding happening
-happening-ends sh l s =
-    any-yields (known (eventNames (sh .events)) l s) λ i j a.
-    any-yields (each (put sh) (carriedBy sh i) j a) λ ps k b.
+happening-ends hd l s =
+    any-yields (known (eventNames (hd .events)) l s) λ i j a.
+    any-yields (each (put hd) (carriedBy hd i) j a) λ ps k b.
     any-yields (lineEnd LINE k b) λ _ m c.
     bind-yields (paperEnd-ends m c) λ _ n t e.
     got-yields e
 
 -- the event line that is taken is the text of what was taken from it
-pub happening-text : (sh : Sheet) (s : List ℕ) → Holds (readEvent sh s) (λ h. s ≡ eventText sh h)
+pub happening-text : (hd : Heads) (s : List ℕ) → Holds (readEvent hd s) (λ h. s ≡ eventText hd h)
 unfolding readEvent
-happening-text sh s h e =
-    let (f, (k, t, q)) = paper-read 3 eventBytes (happening sh) s h e in
-    happening-spells sh .reads 1 s .of h k t q ∙ ap (λ z. eventText sh h ++ z) (happening-ends sh 1 s .of h k t q) ∙ append-nil (eventText sh h)
+happening-text hd s h e =
+    let (f, (k, t, q)) = paper-read 3 eventBytes (happening hd) s h e in
+    happening-spells hd .reads 1 s .of h k t q ∙ ap (λ z. eventText hd h ++ z) (happening-ends hd 1 s .of h k t q) ∙ append-nil (eventText hd h)

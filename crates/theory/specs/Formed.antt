@@ -13,7 +13,7 @@ use Rattle.meaning.specs.Refusal.{LINE, NAME, COND}
 use Rattle.meaning.specs.Limits.{fieldLimit, eventLimit, statusLimit, ruleLimit}
 use Rattle.meaning.specs.Reading.{demand, stands, oneOf, lineEnd}
 use Rattle.meaning.specs.Name.{Name}
-use Rattle.meaning.specs.Sheet.{Sheet, Event, Status, Trigger, always, event, rise, fall, Rule, statuses, statusNames, eventNames, leavesOf, leaves}
+use Rattle.meaning.specs.Sheet.{Heads, Sheet, Event, Status, Trigger, always, event, rise, fall, Rule, statuses, statusNames, eventNames, leavesOf, leaves}
 use Rattle.meaning.specs.ReadSheet.{carried, eventRow, status, signs, trigger, ruleRow}
 use Rattle.theory.specs.Lists.{in-cases, in-is, Once, once-more}
 use Rattle.theory.specs.Readers.{Ensures, give-ensures, refuse-ensures, choose-ensures, demand-ensures, bind-ensures, any-ensures}
@@ -55,19 +55,23 @@ pub record RuleIn (n m v : ℕ) (r : Rule) : Type 0 where
   pub trigger : TriggerIn n v (r .trigger)
   pub leaves : LeavesIn n m (leavesOf (r .condition))
 
+-- what stands above the rules, well formed
+pub record WellHeads (hd : Heads) : Type 0 where
+  pub model : Good (hd .model)
+  pub fields : Each Good (hd .fields)
+  pub events : Each (EventIn (length (hd .fields))) (hd .events)
+  pub stages : Each (StatusIn (length (hd .stages))) (hd .stages)
+  pub miles : Each (StatusIn (length (hd .stages))) (hd .miles)
+  -- "Names of fields, events, stages and miles all differ"
+  pub names : Once (hd .fields ++ eventNames (hd .events) ++ statusNames (hd .stages) ++ statusNames (hd .miles))
+  pub fields-few : length (hd .fields) ≤ fieldLimit
+  pub events-few : length (hd .events) ≤ eventLimit
+  pub statuses-few : length (statuses hd) ≤ statusLimit
+
 -- a sheet that is well formed
 pub record Well (sh : Sheet) : Type 0 where
-  pub model : Good (sh .model)
-  pub fields : Each Good (sh .fields)
-  pub events : Each (EventIn (length (sh .fields))) (sh .events)
-  pub stages : Each (StatusIn (length (sh .stages))) (sh .stages)
-  pub miles : Each (StatusIn (length (sh .stages))) (sh .miles)
-  pub rules : Each (RuleIn (length (statuses sh)) (length (sh .fields)) (length (sh .events))) (sh .rules)
-  -- "Names of fields, events, stages and miles all differ"
-  pub names : Once (sh .fields ++ eventNames (sh .events) ++ statusNames (sh .stages) ++ statusNames (sh .miles))
-  pub fields-few : length (sh .fields) ≤ fieldLimit
-  pub events-few : length (sh .events) ≤ eventLimit
-  pub statuses-few : length (statuses sh) ≤ statusLimit
+  pub heads : WellHeads (sh .heads)
+  pub rules : Each (RuleIn (length (statuses (sh .heads))) (length (sh .heads .fields)) (length (sh .heads .events))) (sh .rules)
   pub rules-few : length (sh .rules) ≤ ruleLimit
 
 -- ONE ROW MORE

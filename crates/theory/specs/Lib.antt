@@ -11,7 +11,7 @@ pub mod Systems
 -- Two nodes for each status, and any test of them on a side:
 pub mod Sides
 pub mod Polar
--- The step of a sheet:
+-- The step, over any tests:
 pub mod Values
 pub mod Rules
 pub mod Next
@@ -45,6 +45,8 @@ pub mod Conditions
 pub mod Formed
 pub mod Sheets
 pub mod Edges
+-- The tests of a sheet of document 01:
+pub mod Tested
 pub mod Entries
 pub mod Counts
 pub mod Cards
@@ -56,5 +58,6 @@ pub mod EventText
 pub mod Rows
 -- A case that was taken:
 pub mod Cases
--- What is refused, and with which number:
+-- What is refused, and with which number; when each request is taken:
 pub mod Numbers
+pub mod Requests

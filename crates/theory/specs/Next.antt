@@ -1,45 +1,56 @@
--- The step of a sheet has one answer: what any testing order leads to meets the rules, and no two sides do.
-use mathlib.Core.Path.{_≡_}
+-- The step has one answer, over any list of tests whose graph has a testing order: what any such order leads to meets the rules, and no two sides do.
+use mathlib.Core.Path.{_≡_, refl}
 use mathlib.Core.Bool.{Bool}
 use mathlib.Core.List.{List, _∷_, _++_}
-use Prim.Native.Nat.{ℕ}
+use Prim.Native.Nat.{ℕ, _*_}
 use lib.ListN.{length}
 use Rattle.meaning.specs.Text.{In}
-use Rattle.meaning.specs.Graph.{Inside, TestingOrder}
-use Rattle.meaning.specs.Sheet.{Sheet, Rule, statuses}
-use Rattle.meaning.specs.Dependency.{nodes, rulesFor, predecessors}
+use Rattle.meaning.specs.Graph.{Acyclic, Inside, TestingOrder}
+use Rattle.meaning.specs.Tests.{Test}
+use Rattle.meaning.specs.Dependency.{testsFor, predecessors}
 use Rattle.meaning.specs.Step.{Moment, holds, someHolds, Meets, leadsTo}
-use Rattle.theory.specs.Orders.{order-acyclic}
+use Rattle.theory.specs.Orders.{order-exists, order-acyclic}
 use Rattle.theory.specs.Polar as Polar
 use Rattle.theory.specs.Polar.{run-length, order-stands, preceding-final}
-use Rattle.theory.specs.Rules.{gate, sees, rule-sees, source-precedes}
+use Rattle.theory.specs.Rules.{gate, sees, test-sees, source-precedes}
 
--- with a mark on the before side for each status
-module _ (sh : Sheet) (m : Moment) (full : length (m .before) ≡ length (statuses sh)) where
+module _ (ts : List Test) (m : Moment) where
+  -- two nodes for each status of the card
+  abbrev nodesOf : ℕ
+  nodesOf = length (m .before) * 2
+
+  abbrev Orders : List ℕ → Type 0
+  Orders o = TestingOrder nodesOf (predecessors ts) o
+
   -- what a testing order leads to meets the rules
-  pub leads-meets : (o : List ℕ) → TestingOrder (nodes sh) (predecessors sh) o → Meets sh m (leadsTo sh m o)
-  unfolding leadsTo nodes
+  pub leads-meets : (o : List ℕ) → Orders o → Meets ts m (leadsTo ts m o)
+  unfolding leadsTo
   leads-meets o t = record {
-    long = run-length (someHolds sh m) o (m .before);
-    exactly = order-stands (m .before) (someHolds sh m) (gate sh m) (length (statuses sh)) full (predecessors sh) (sees sh m) o t;
+    long = run-length (λ c. someHolds m c ts) o (m .before);
+    exactly = order-stands (m .before) (λ c. someHolds m c ts) (gate ts m) (length (m .before)) refl (predecessors ts) (sees ts m) o t;
   }
 
-  -- a rule of a node answers the same on the side with which the order comes to the node and on the final side
-  pub rule-final : (o front : List ℕ) (k : ℕ) (back : List ℕ) → o ≡ front ++ k ∷ back → TestingOrder (nodes sh) (predecessors sh) o
-      → (r : Rule) → In r (rulesFor sh k) → holds sh m (leadsTo sh m front) r ≡ holds sh m (leadsTo sh m o) r
-  unfolding leadsTo nodes
-  rule-final o front k back e t r i =
-      rule-sees sh m (leadsTo sh m front) (leadsTo sh m o) r
-      (λ p h. preceding-final (m .before) (someHolds sh m) (gate sh m) (length (statuses sh)) full (predecessors sh) (sees sh m) o front k back e t p (source-precedes sh k r i p h))
+  -- a test of a node answers the same on the side with which the order comes to the node and on the final side
+  pub test-final : (o front : List ℕ) (k : ℕ) (back : List ℕ) → o ≡ front ++ k ∷ back → Orders o
+      → (t : Test) → In t (testsFor ts k) → holds m (leadsTo ts m front) t ≡ holds m (leadsTo ts m o) t
+  unfolding leadsTo
+  test-final o front k back e so t i =
+      test-sees m (leadsTo ts m front) (leadsTo ts m o) t
+      (λ p h. preceding-final (m .before) (λ c. someHolds m c ts) (gate ts m) (length (m .before)) refl (predecessors ts) (sees ts m) o front k back e so p (source-precedes ts k t i p h))
 
   -- no two sides meet the rules
-  module _ (inside : Inside (nodes sh) (predecessors sh)) where
-    pub one-side : (o : List ℕ) → TestingOrder (nodes sh) (predecessors sh) o → (c d : List Bool) → Meets sh m c → Meets sh m d → c ≡ d
-    unfolding nodes
+  module _ (inside : Inside nodesOf (predecessors ts)) where
+    pub one-side : (o : List ℕ) → Orders o → (c d : List Bool) → Meets ts m c → Meets ts m d → c ≡ d
     one-side o t c d mc md =
-        Polar.one-side (m .before) (someHolds sh m) (gate sh m) (length (statuses sh)) full (predecessors sh) (sees sh m) inside
-        (order-acyclic (nodes sh) (predecessors sh) inside o t) c d (mc .long) (md .long) (mc .exactly) (md .exactly)
+        Polar.one-side (m .before) (λ c. someHolds m c ts) (gate ts m) (length (m .before)) refl (predecessors ts) (sees ts m) inside
+        (order-acyclic nodesOf (predecessors ts) inside o t) c d (mc .long) (md .long) (mc .exactly) (md .exactly)
 
     -- all testing orders lead to the same side
-    pub any-order : (o₁ o₂ : List ℕ) → TestingOrder (nodes sh) (predecessors sh) o₁ → TestingOrder (nodes sh) (predecessors sh) o₂ → leadsTo sh m o₁ ≡ leadsTo sh m o₂
-    any-order o₁ o₂ t₁ t₂ = one-side o₁ t₁ (leadsTo sh m o₁) (leadsTo sh m o₂) (leads-meets o₁ t₁) (leads-meets o₂ t₂)
+    pub any-order : (o₁ o₂ : List ℕ) → Orders o₁ → Orders o₂ → leadsTo ts m o₁ ≡ leadsTo ts m o₂
+    any-order o₁ o₂ t₁ t₂ = one-side o₁ t₁ (leadsTo ts m o₁) (leadsTo ts m o₂) (leads-meets o₁ t₁) (leads-meets o₂ t₂)
+
+    -- on a graph without cycles there is one next card: some side meets the rules, no other does, and every testing order leads to it
+    pub one-next : Acyclic (predecessors ts) → (side : List Bool) × Meets ts m side × ((c : List Bool) → Meets ts m c → c ≡ side) × ((o : List ℕ) → Orders o → leadsTo ts m o ≡ side)
+    one-next ac =
+        let (o, t) = order-exists nodesOf (predecessors ts) ac in
+        (leadsTo ts m o, leads-meets o t, λ c h. one-side o t c (leadsTo ts m o) h (leads-meets o t), λ p u. any-order p o u t)

@@ -4,19 +4,21 @@ use mathlib.Core.Path.{_≡_, refl, _∙_, ap, subst₂}
 use mathlib.Core.Bool.{Bool, true, false, cond, false≢true}
 use mathlib.Core.List.{List}
 use mathlib.Core.Option.{Option, none, some}
+use mathlib.Core.Logic.{_↔_}
 use native.Mathlib.Omega.{arith}
 use lib.ListN.{length}
 use lib.Dec.{leb}
 use Rattle.meaning.specs.Refusal.{Answer, taken, refused, onTaken, LONG, ROOM, MANY}
 use Rattle.meaning.specs.Limits.{sheetBytes, cardBytes, eventBytes}
 use Rattle.meaning.specs.Reading.{Got, got, wrong, Reader, choose, answered, paper}
-use Rattle.meaning.specs.Sheet.{Sheet}
+use Rattle.meaning.specs.Sheet.{Heads, Sheet}
 use Rattle.meaning.specs.ReadSheet.{sheet}
 use Rattle.meaning.specs.Card.{Card, card, orphan, sheltered, readCard, happening, readEvent}
+use Rattle.meaning.specs.Tests.{tests}
 use Rattle.meaning.specs.Dependency.{testingOrder}
 use Rattle.meaning.specs.Step.{moment}
 use Rattle.meaning.specs.Outlook.{many, patterns}
-use Rattle.meaning.specs.Doors.{accepted, readSheet, Case, readCase, next, outlook, fitting, stepAnswer, outlookAnswer}
+use Rattle.meaning.specs.Doors.{Accepted, accepted, readSheet, Case, readTold, readCase, next, outlook, fitting, stepAnswer, outlookAnswer}
 use Rattle.theory.specs.Built.{Built}
 use Rattle.theory.specs.Faults.{Faulty, built-faulty}
 use Rattle.theory.specs.BuiltPapers.{sheet-built, card-built, happening-built}
@@ -105,27 +107,57 @@ sheet-tells s = on-tells (paper 1 sheetBytes sheet s) (tells-weaker (λ n p h. (
     go sh (some o) = taken-tells
 
 -- the card: LONG, a fault or ORPHAN
-pub card-tells : (sh : Sheet) (s : List ℕ) → Tells (readCard sh s) (λ n p. (1 ≤ n) × (n ≤ 8) × (p ≡ 2))
+pub card-tells : (hd : Heads) (s : List ℕ) → Tells (readCard hd s) (λ n p. (1 ≤ n) × (n ≤ 8) × (p ≡ 2))
 unfolding readCard
-card-tells sh s = on-tells (paper 2 cardBytes (card sh) s) (tells-weaker (λ n p h. (h .0, omega (arith, h .1), h .2)) (paper-tells 2 cardBytes s (card-built sh))) λ c. go c (orphan (c .statuses) 0 (sh .stages))
+card-tells hd s = on-tells (paper 2 cardBytes (card hd) s) (tells-weaker (λ n p h. (h .0, omega (arith, h .1), h .2)) (paper-tells 2 cardBytes s (card-built hd))) λ c. go c (orphan (c .statuses) 0 (hd .stages))
   where
-    go : (c : Card) (o : Option ℕ) → Tells (sheltered sh c o) (λ n p. (1 ≤ n) × (n ≤ 8) × (p ≡ 2))
+    go : (c : Card) (o : Option ℕ) → Tells (sheltered hd c o) (λ n p. (1 ≤ n) × (n ≤ 8) × (p ≡ 2))
     go c none = taken-tells
     go c (some x) = refused-tells (omega arith, omega arith, refl)
 
 -- the event line: LONG or a fault
-pub event-tells : (sh : Sheet) (s : List ℕ) → Tells (readEvent sh s) (λ n p. (1 ≤ n) × (n ≤ 6) × (p ≡ 3))
+pub event-tells : (hd : Heads) (s : List ℕ) → Tells (readEvent hd s) (λ n p. (1 ≤ n) × (n ≤ 6) × (p ≡ 3))
 unfolding readEvent
-event-tells sh s = paper-tells 3 eventBytes s (happening-built sh)
+event-tells hd s = paper-tells 3 eventBytes s (happening-built hd)
+
+-- card and event line
+pub told-tells : (hd : Heads) (c e : List ℕ) → Tells (readTold hd c e) (λ n p. (1 ≤ n) × (n ≤ 8) × (2 ≤ p) × (p ≤ 3))
+unfolding readTold
+told-tells hd c e =
+    on-tells (readCard hd c) (tells-weaker (λ n p h. omega (arith, h .0, h .1, h .2)) (card-tells hd c)) λ k.
+    on-tells (readEvent hd e) (tells-weaker (λ n p h. omega (arith, h .0, h .1, h .2)) (event-tells hd e)) λ v.
+    taken-tells
 
 -- the three papers
 pub case-tells : (s c e : List ℕ) → Tells (readCase s c e) (λ n p. (1 ≤ n) × (n ≤ 8) × (1 ≤ p) × (p ≤ 3))
 unfolding readCase
 case-tells s c e =
     on-tells (readSheet s) (tells-weaker (λ n p h. omega (arith, h .0, h .1, h .2)) (sheet-tells s)) λ a.
-    on-tells (readCard (a .sheet) c) (tells-weaker (λ n p h. omega (arith, h .0, h .1, h .2)) (card-tells (a .sheet) c)) λ k.
-    on-tells (readEvent (a .sheet) e) (tells-weaker (λ n p h. omega (arith, h .0, h .1, h .2)) (event-tells (a .sheet) e)) λ v.
+    on-tells (readTold (a .sheet .heads) c e) (tells-weaker (λ n p h. omega (arith, h .0, h .1, h .2, h .3)) (told-tells (a .sheet .heads) c e)) λ t.
     taken-tells
+
+-- A request over the three papers, whose own refusals name none of them
+module _ {A : Type 0} (f : Case → Answer A) (own : (k : Case) → Tells (f k) (λ n p. p ≡ 0)) (s c e : List ℕ) where
+  -- a refusal as that of another request
+  abbrev handed : Answer A → Answer Accepted
+  handed (taken a) = refused 0 0 0
+  handed (refused n p l) = refused n p l
+
+  -- where the sheet is taken, no refusal names it
+  behind-sheet : (a : Accepted) → Tells (onTaken (onTaken (readTold (a .sheet .heads) c e) (λ t. taken (record { sheet = a .sheet; order = a .order; card = t .card; happening = t .happening }))) f) (λ n p. p ≡ 1 → ⊥)
+  behind-sheet a =
+      on-tells (onTaken (readTold (a .sheet .heads) c e) _)
+      (on-tells (readTold (a .sheet .heads) c e) (tells-weaker (λ n p h z. omega (arith, h .2)) (told-tells (a .sheet .heads) c e)) λ t. taken-tells)
+      λ k. tells-weaker (λ n p h z. omega arith) (own k)
+
+  -- so a refusal that names the sheet is the sheet's, and the other way about
+  pub sheet-names : (n l : ℕ) → (onTaken (readCase s c e) f ≡ refused n 1 l) ↔ (readSheet s ≡ refused n 1 l)
+  unfolding readCase
+  sheet-names n l = (λ q. go (readSheet s) refl q, λ q. rw q)
+    where
+      go : (x : Answer Accepted) → readSheet s ≡ x → onTaken (readCase s c e) f ≡ refused n 1 l → readSheet s ≡ refused n 1 l
+      go (refused m p k) r q = r ∙ ap handed (rw r at q)
+      go (taken a) r q = absurd (behind-sheet a .told n 1 l (rw r at q) refl)
 
 -- ROOM
 fitting-tells : {A : Type 0} {P : ℕ → ℕ → Type 0} (out : A → List ℕ) (room : ℕ) (a : A) → P ROOM 0 → Tells (fitting out room a) P
@@ -135,6 +167,18 @@ fitting-tells {A} {P} out room a h = go (leb (length (out a)) room)
     go : (b : Bool) → Tells (cond b (taken a) (refused ROOM 0 0)) P
     go true = taken-tells
     go false = refused-tells h
+
+-- what a step and an outlook tell beside the papers' refusals names no paper
+pub step-own : (room : ℕ) (k : Case) → Tells (fitting (λ n. n .card) room (next k)) (λ n p. p ≡ 0)
+step-own room k = fitting-tells (λ n. n .card) room (next k) refl
+
+pub outlook-own : (room : ℕ) (k : Case) → Tells (onTaken (outlook k) (λ l. fitting (λ l. l) room l)) (λ n p. p ≡ 0)
+unfolding outlook
+outlook-own room k = on-tells (outlook k) (go (many (tests (k .sheet)) (moment (k .card) (k .happening)))) λ l. fitting-tells (λ l. l) room l refl
+  where
+    go : (b : Bool) → Tells {A = List ℕ} (elim b [ true ↦ refused MANY 0 0 | false ↦ taken (patterns (tests (k .sheet)) (k .order) (moment (k .card) (k .happening))) ]) (λ n p. p ≡ 0)
+    go true = refused-tells refl
+    go false = taken-tells
 
 -- a step "never gives MANY"
 pub step-tells : (s c e : List ℕ) (room : ℕ) → Tells (stepAnswer s c e room) (λ n p. (1 ≤ n) × (n ≤ 9) × (p ≤ 3))
@@ -148,9 +192,9 @@ pub outlook-tells : (s c e : List ℕ) (room : ℕ) → Tells (outlookAnswer s c
 unfolding outlookAnswer outlook
 outlook-tells s c e room =
     on-tells (readCase s c e) (tells-weaker (λ n p h. omega (arith, h .0, h .1, h .3)) (case-tells s c e)) λ k.
-    on-tells (outlook k) (go k (many (k .sheet) (moment (k .card) (k .happening)))) λ l.
+    on-tells (outlook k) (go k (many (tests (k .sheet)) (moment (k .card) (k .happening)))) λ l.
     fitting-tells (λ l. l) room l (omega arith)
   where
-    go : (k : Case) (b : Bool) → Tells {A = List ℕ} (elim b [ true ↦ refused MANY 0 0 | false ↦ taken (patterns (k .sheet) (k .order) (moment (k .card) (k .happening))) ]) (λ n p. (1 ≤ n) × (n ≤ 10) × (p ≤ 3))
+    go : (k : Case) (b : Bool) → Tells {A = List ℕ} (elim b [ true ↦ refused MANY 0 0 | false ↦ taken (patterns (tests (k .sheet)) (k .order) (moment (k .card) (k .happening))) ]) (λ n p. (1 ≤ n) × (n ≤ 10) × (p ≤ 3))
     go k true = refused-tells (omega arith)
     go k false = taken-tells

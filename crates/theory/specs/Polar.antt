@@ -9,11 +9,11 @@ use lib.ListN.{length, length-set}
 use lib.Seq.{ext-getD}
 use Rattle.meaning.specs.Text.{In}
 use Rattle.meaning.specs.Graph.{Into, edge, Acyclic, Inside, TestingOrder}
-use Rattle.meaning.specs.Dependency.{up, down}
-use Rattle.meaning.specs.Step.{rising, changes, setIf, runOn}
+use Rattle.meaning.specs.Tests.{up, down}
+use Rattle.meaning.specs.Step.{rising, allowed, changes, setIf, runOn}
 use Rattle.theory.specs.Orders.{Sorted, sorted-from, sorted-front, sorted-back}
 use Rattle.theory.specs.Systems.{put, put-other, run, run-joined, run-other, Meets, Reads, order-meets, unique}
-use Rattle.theory.specs.Sides.{allows, same-status, sideOf, side-none, side-changes, changes-side, changes-same, set-side}
+use Rattle.theory.specs.Sides.{same-status, sideOf, side-none, side-changes, changes-side, changes-same, set-side}
 
 -- a run keeps the length
 pub run-length : (test : List Bool → ℕ → Bool) (o : List ℕ) (c : List Bool) → length (runOn test o c) ≡ length c
@@ -25,8 +25,8 @@ run-length test (k ∷ o) c = run-length test o (setIf (test c k) k c) ∙ turn 
     turn true = length-set c (k / 2) (rising k)
     turn false = refl
 
--- A test of the nodes on a side, which holds only of a change that the before side allows,
-module _ (before : List Bool) (test : List Bool → ℕ → Bool) (gate : (c : List Bool) (k : ℕ) → test c k ≡ true → allows before k ≡ true) where
+-- A test of the nodes on a side, which holds only of a change that the before side allowed,
+module _ (before : List Bool) (test : List Bool → ℕ → Bool) (gate : (c : List Bool) (k : ℕ) → test c k ≡ true → allowed before k ≡ true) where
   -- what a node gets on node values: its test, on their side
   abbrev pub next : (ℕ → Bool) → ℕ → Bool
   next f k = test (sideOf before f) k
@@ -60,9 +60,9 @@ module _ (before : List Bool) (test : List Bool → ℕ → Bool) (gate : (c : L
         meets : f k ≡ next f k
         meets = order-meets into next next-reads (m * 2) o t (λ j. false) k l
 
-        gated : (b : Bool) → f k ≡ b → allows before k && b ≡ b
+        gated : (b : Bool) → f k ≡ b → allowed before k && b ≡ b
         gated true e = rw (gate (sideOf before f) k (sym meets ∙ e))
-        gated false e = and-none (allows before k)
+        gated false e = and-none (allowed before k)
           where
             and-none : (a : Bool) → a && false ≡ false
             and-none true = refl

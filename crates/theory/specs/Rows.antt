@@ -10,12 +10,12 @@ use Rattle.meaning.specs.Text.{text, joined}
 use Rattle.meaning.specs.Refusal.{taken}
 use Rattle.meaning.specs.Name.{Name}
 use Rattle.meaning.specs.Number.{Entry, decimal}
-use Rattle.meaning.specs.Sheet.{Sheet, Event, statuses, statusNames, eventNames}
+use Rattle.meaning.specs.Sheet.{Heads, Event, statuses, statusNames, eventNames}
 use Rattle.meaning.specs.Card as M
 use Rattle.meaning.specs.Card.{Put, readCard, readEvent, carriedBy}
 use Rattle.meaning.specs.Write.{line, lines, mark, cardText}
 use Rattle.theory.specs.Lists.{Once}
-use Rattle.theory.specs.Formed.{Each, EventIn, Well}
+use Rattle.theory.specs.Formed.{Each, EventIn, WellHeads}
 use Rattle.theory.specs.Papers.{event-holds}
 use Rattle.theory.specs.Accepted.{line-length}
 use Rattle.theory.specs.Written.{readCard-text}
@@ -49,14 +49,14 @@ card-rows (n ∷ ns) (e ∷ es) rest =
     (10, more ++ rest, append-assoc (n ++ text "=" ++ e .shown ++ text "\n") more rest ∙ append-assoc (n ++ text "=" ++ e .shown) (text "\n") (more ++ rest), card-rows ns es rest)
 
 -- the rows of an event line, behind one byte
-event-rows : (sh : Sheet) (ps : List Put)
-    → (b : ℕ) × (u : List ℕ) × (joined (putText sh) ps ++ text "\n" ≡ b ∷ u) × Rows u (map (λ p. getD (sh .fields) (p .field) []) ps) (map (λ p. p .entry) ps)
+event-rows : (hd : Heads) (ps : List Put)
+    → (b : ℕ) × (u : List ℕ) × (joined (putText hd) ps ++ text "\n" ≡ b ∷ u) × Rows u (map (λ p. getD (hd .fields) (p .field) []) ps) (map (λ p. p .entry) ps)
 unfolding joined putText
-event-rows sh [] = (10, [], refl, tt)
-event-rows sh (p ∷ ps) =
-    let (b, u, q, r) = event-rows sh ps in
-    let row = getD (sh .fields) (p .field) [] ++ text "=" ++ p .entry .shown in
-    (32, row ++ (b ∷ u), ap (λ t. 32 ∷ t) (append-assoc row (joined (putText sh) ps) (text "\n") ∙ ap (λ t. row ++ t) q), (b, u, refl, r))
+event-rows hd [] = (10, [], refl, tt)
+event-rows hd (p ∷ ps) =
+    let (b, u, q, r) = event-rows hd ps in
+    let row = getD (hd .fields) (p .field) [] ++ text "=" ++ p .entry .shown in
+    (32, row ++ (b ∷ u), ap (λ t. 32 ∷ t) (append-assoc row (joined (putText hd) ps) (text "\n") ∙ ap (λ t. row ++ t) q), (b, u, refl, r))
 
 -- an event carries a field once
 carries-once : (m : ℕ) (es : List Event) → Each (EventIn m) es → (i : ℕ) → Once (getD es i (record { name = []; carries = [] }) .carries)
@@ -66,31 +66,31 @@ carries-once m (e ∷ es) h (suc i) = carries-once m es (λ x j. h x (inr j)) i
 
 -- PAPERS THAT WERE TAKEN
 
-module _ (sh : Sheet) (well : Well sh) where
-  module _ (sc : List ℕ) (mc : M.Card) (card-taken : readCard sh sc ≡ taken mc) where
+module _ (hd : Heads) (well : WellHeads hd) where
+  module _ (sc : List ℕ) (mc : M.Card) (card-taken : readCard hd sc ≡ taken mc) where
     -- the rows of the card, behind its first line
-    pub card-at : Rows (drop (5 + length (sh .model) + 1) sc) (sh .fields) (mc .entries)
+    pub card-at : Rows (drop (5 + length (hd .model) + 1) sc) (hd .fields) (mc .entries)
     unfolding cardText
     card-at =
-        let first = line (text "case") (sh .model) in
-        let fields = lines (λ (e : Entry). e .shown) (sh .fields) (mc .entries) in
-        let marks = lines mark (statusNames (statuses sh)) (mc .statuses) in
+        let first = line (text "case") (hd .model) in
+        let fields = lines (λ (e : Entry). e .shown) (hd .fields) (mc .entries) in
+        let marks = lines mark (statusNames (statuses hd)) (mc .statuses) in
         let end = line (text "end") (decimal (length (mc .entries) + length (mc .statuses))) in
-        let whole : sc ≡ first ++ (fields ++ (marks ++ end)) = readCard-text sh well sc mc card-taken ∙ append-assoc (first ++ fields) marks end ∙ append-assoc first fields (marks ++ end) in
-        let long : length first ≡ 5 + length (sh .model) + 1 = omega (arith, line-length (text "case") (sh .model)) in
-        subst (λ t. Rows t (sh .fields) (mc .entries)) (sym (rw whole (drop-at first (fields ++ (marks ++ end)) (5 + length (sh .model) + 1) long))) (card-rows (sh .fields) (mc .entries) (marks ++ end))
+        let whole : sc ≡ first ++ (fields ++ (marks ++ end)) = readCard-text hd well sc mc card-taken ∙ append-assoc (first ++ fields) marks end ∙ append-assoc first fields (marks ++ end) in
+        let long : length first ≡ 5 + length (hd .model) + 1 = omega (arith, line-length (text "case") (hd .model)) in
+        subst (λ t. Rows t (hd .fields) (mc .entries)) (sym (rw whole (drop-at first (fields ++ (marks ++ end)) (5 + length (hd .model) + 1) long))) (card-rows (hd .fields) (mc .entries) (marks ++ end))
 
-  module _ (se : List ℕ) (mh : M.Happening) (event-taken : readEvent sh se ≡ taken mh) where
+  module _ (se : List ℕ) (mh : M.Happening) (event-taken : readEvent hd se ≡ taken mh) where
     -- the rows of the event line, behind the event's name and a space
-    pub event-at : Rows (drop (length (getD (eventNames (sh .events)) (mh .event) []) + 1) se) (map (λ p. getD (sh .fields) (p .field) []) (mh .puts)) (map (λ p. p .entry) (mh .puts))
+    pub event-at : Rows (drop (length (getD (eventNames (hd .events)) (mh .event) []) + 1) se) (map (λ p. getD (hd .fields) (p .field) []) (mh .puts)) (map (λ p. p .entry) (mh .puts))
     unfolding eventText
     event-at =
-        let name = getD (eventNames (sh .events)) (mh .event) [] in
-        let (b, u, q, r) = event-rows sh (mh .puts) in
-        let whole : se ≡ name ++ (b ∷ []) ++ u = happening-text sh se mh event-taken ∙ append-assoc name (joined (putText sh) (mh .puts)) (text "\n") ∙ ap (λ t. name ++ t) q ∙ sym (append-assoc name (b ∷ []) u) in
+        let name = getD (eventNames (hd .events)) (mh .event) [] in
+        let (b, u, q, r) = event-rows hd (mh .puts) in
+        let whole : se ≡ name ++ (b ∷ []) ++ u = happening-text hd se mh event-taken ∙ append-assoc name (joined (putText hd) (mh .puts)) (text "\n") ∙ ap (λ t. name ++ t) q ∙ sym (append-assoc name (b ∷ []) u) in
         let long : length (name ++ (b ∷ [])) ≡ length name + 1 = length-append name (b ∷ []) in
-        subst (λ t. Rows t (map (λ p. getD (sh .fields) (p .field) []) (mh .puts)) (map (λ p. p .entry) (mh .puts))) (sym (rw whole (drop-at (name ++ (b ∷ [])) u (length name + 1) long))) r
+        subst (λ t. Rows t (map (λ p. getD (hd .fields) (p .field) []) (mh .puts)) (map (λ p. p .entry) (mh .puts))) (sym (rw whole (drop-at (name ++ (b ∷ [])) u (length name + 1) long))) r
 
     pub once : Once (map (λ p. p .field) (mh .puts))
     unfolding carriedBy
-    once = rw (event-holds sh se well mh event-taken .carried) (carries-once (length (sh .fields)) (sh .events) (well .events) (mh .event))
+    once = rw (event-holds hd se well mh event-taken .carried) (carries-once (length (hd .fields)) (hd .events) (well .events) (mh .event))

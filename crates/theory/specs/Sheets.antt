@@ -9,12 +9,12 @@ use Rattle.meaning.specs.Limits.{fieldLimit, eventLimit, statusLimit, ruleLimit
 use Rattle.meaning.specs.Reading.{due, lineEnd}
 use Rattle.meaning.specs.Name.{Name}
 use Rattle.meaning.specs.Number.{endLine}
-use Rattle.meaning.specs.Sheet.{Event, Status, statuses, statusNames, eventNames, withRules}
+use Rattle.meaning.specs.Sheet.{Event, Status, statuses, statusNames, eventNames}
 use Rattle.meaning.specs.ReadSheet.{section, fieldRow, eventRow, stageRow, mileRow, ruleRow, heads, rulesOf, sheet}
 use Rattle.theory.specs.Lists.{Once, once-more}
 use Rattle.theory.specs.Readers.{Ensures, give-ensures, bind-ensures, any-ensures, ensures-weaker, section-ensures}
 use Rattle.theory.specs.Names.{Good, name-good, newName-new}
-use Rattle.theory.specs.Formed.{Each, StatusIn, EventIn, RuleIn, Well, each-more, once-row, status-up, event-in, status-in, rule-in}
+use Rattle.theory.specs.Formed.{Each, StatusIn, EventIn, RuleIn, WellHeads, Well, each-more, once-row, status-up, event-in, status-in, rule-in}
 
 -- SECTION BY SECTION
 
@@ -81,7 +81,7 @@ rulesOf-in fields events sts =
 -- WHAT IS READ
 
 -- what stands above the rules
-pub heads-well : Ensures heads Well
+pub heads-well : Ensures heads WellHeads
 unfolding heads statusNames eventNames statuses
 heads-well =
     any-ensures (due LINE (text "model=")) λ _.
@@ -97,30 +97,20 @@ heads-well =
       events = he .0 .0;
       stages = hs .0 .0;
       miles = hl .0 .0;
-      rules = λ r i. absurd i;
       names = hl .0 .1;
       fields-few = hf .1;
       events-few = he .1;
       statuses-few = omega (arith, hl .1, hs .1, length-append stages miles);
-      rules-few = omega arith;
     })
 
 -- a sheet, with its rules
 pub sheet-well : Ensures sheet Well
-unfolding sheet withRules statusNames eventNames statuses
+unfolding sheet statusNames eventNames
 sheet-well =
-    bind-ensures heads-well λ sh h.
-    bind-ensures (rulesOf-in (sh .fields) (eventNames (sh .events)) (statusNames (statuses sh))) λ rules hr.
+    bind-ensures heads-well λ hd h.
+    bind-ensures (rulesOf-in (hd .fields) (eventNames (hd .events)) (statusNames (statuses hd))) λ rules hr.
     give-ensures (record {
-      model = h .model;
-      fields = h .fields;
-      events = h .events;
-      stages = h .stages;
-      miles = h .miles;
-      rules = λ r i. rw (length-map (statuses sh) (λ (s : Status). s .name), length-map (sh .events) (λ (e : Event). e .name)) at (hr .0 r i);
-      names = h .names;
-      fields-few = h .fields-few;
-      events-few = h .events-few;
-      statuses-few = h .statuses-few;
+      heads = h;
+      rules = λ r i. rw (length-map (statuses hd) (λ (s : Status). s .name), length-map (hd .events) (λ (e : Event). e .name)) at (hr .0 r i);
       rules-few = hr .1;
     })

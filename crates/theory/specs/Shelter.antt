@@ -1,22 +1,22 @@
 -- The parent rule is kept: where no stage is yes under a parent that is no, none is on a side that meets the rules.
-use Prim.Native.Nat.{ℕ, zero, suc, _+_, _<_}
+use Prim.Native.Nat.{ℕ, zero, suc, _+_, _≤_, _<_}
 use mathlib.Core.Path.{_≡_, refl, sym, _∙_, ap, ap₂}
 use mathlib.Core.Bool.{Bool, true, false, not, _&&_, false≢true}
-use mathlib.Core.List.{List, [], _∷_, _++_}
+use mathlib.Core.List.{List, [], _∷_}
 use mathlib.Core.Option.{Option, none, some, Option·some-ne-none, Option·none-ne-some, Option·some-injective}
-use mathlib.Core.Logic.{inl}
 use native.Mathlib.Omega.{arith}
 use lib.Dec.{eqb}
-use lib.ListN.{length, getD, length-append}
+use lib.ListN.{length, getD}
 use borrow.Author.Tests.{eq-eqb, not-false}
 use Rattle.meaning.specs.Text.{In}
-use Rattle.meaning.specs.Sheet.{Sheet, Status, Sign, plus, minus, fall, Rule, statuses, stageOver}
+use Rattle.meaning.specs.Sheet.{Status, fall}
 use Rattle.meaning.specs.Card.{is, shut, orphan}
-use Rattle.meaning.specs.Dependency.{up, down, nodes, node, consequent, closing, impliedFrom, allRules, rulesFor}
-use Rattle.meaning.specs.Step.{Moment, allowed, triggered, fulfilled, housed, holds, someHolds, Meets}
-use Rattle.theory.specs.Lists.{in-left, in-right, in-keep, in-any, any-in}
-use Rattle.theory.specs.Sides.{changes-up, changes-down}
-use Rattle.theory.specs.Rules.{rule-of}
+use Rattle.meaning.specs.Tests.{up, down, Test}
+use Rattle.meaning.specs.Dependency.{testsFor}
+use Rattle.meaning.specs.Step.{Moment, needed, triggered, fulfilled, housed, holds, someHolds, Meets}
+use Rattle.theory.specs.Lists.{in-keep, in-any, any-in}
+use Rattle.theory.specs.Sides.{allowed-down, changes-up, changes-down}
+use Rattle.theory.specs.Rules.{holds-parts, test-of}
 
 -- what is read where no status stands
 abbrev pub nowhere : Status
@@ -79,85 +79,55 @@ orphan-none side ss e x h = none-from side 0 ss e x x (omega arith) h
 pub none-orphan : (side : List Bool) (ss : List Status) → ((x : ℕ) → x < length ss → is side x && shut side (getD ss x nowhere .under) ≡ false) → orphan side 0 ss ≡ none
 none-orphan side ss f = from-none side 0 ss (λ y i q h. let z : y ≡ i = omega arith in rw z (f i h))
 
--- WHAT THE RULES SAY OF A STAGE AND ITS PARENT
+-- WHAT THE TESTS SAY OF A STAGE AND ITS PARENT
 
--- what stands in front
-front-at : (xs ys : List Status) (i : ℕ) → i < length xs → getD (xs ++ ys) i nowhere ≡ getD xs i nowhere
-front-at [] ys i h = absurd (omega arith)
-front-at (x ∷ xs) ys zero h = refl
-front-at (x ∷ xs) ys (suc i) h = front-at xs ys i (omega arith)
+-- the implied test of a stage with a parent
+abbrev pub closes : ℕ → ℕ → Test
+closes x p = record { node = down x; needs = none; trigger = fall p; home = none; condition = none; line = 0 }
 
--- the implied rule of a stage with a parent
-abbrev closes : ℕ → ℕ → Rule
-closes x p = record { sign = minus; status = x; trigger = fall p; condition = none }
+-- tests that guard the stages: one for `+x` asks for the parent of x, and a stage closes with its parent
+pub record Guards (stages : List Status) (ts : List Test) : Type 0 where
+  pub asks : (x p : ℕ) → x < length stages → getD stages x nowhere .under ≡ some p → (t : Test) → In t ts → t .node ≡ up x → t .home ≡ some p
+  pub shut : (x p : ℕ) → x < length stages → getD stages x nowhere .under ≡ some p → In (closes x p) ts
 
--- it is among the implied rules
-implied-in : (x : ℕ) (ss : List Status) (y i p : ℕ) → y ≡ x + i → i < length ss → getD ss i nowhere .under ≡ some p → In (closes y p) (impliedFrom x ss)
-unfolding impliedFrom
-implied-in x [] y i p q h e = absurd (omega arith)
-implied-in x (s ∷ ss) y zero p q h e =
-    let z : y ≡ x = omega arith in
-    in-left (closes y p) (closing x (s .under)) (impliedFrom (suc x) ss) (rw e (inl (ap (λ w. closes w p) z)))
-implied-in x (s ∷ ss) y (suc i) p q h e =
-    in-right (closes y p) (closing x (s .under)) (impliedFrom (suc x) ss) (implied-in (suc x) ss y i p (omega arith) (omega arith) e)
+module _ (stages : List Status) (ts : List Test) (guards : Guards stages ts) (m : Moment) (after : List Bool) where
+  -- the implied test of a stage that was yes holds where its parent goes from yes to no
+  shuts : (x p : ℕ) → is (m .before) x ≡ true → is (m .before) p ≡ true → is after p ≡ false → holds m after (closes x p) ≡ true
+  unfolding holds needed triggered fulfilled housed
+  shuts x p b q a = rw (allowed-down (m .before) x, b, q, a)
 
-module _ (sh : Sheet) (m : Moment) (after : List Bool) where
-  -- a rule for `+x` that holds needs the stage over x yes
-  opens : (x p : ℕ) (r : Rule) → consequent r ≡ up x → holds sh m after r ≡ true → stageOver sh x ≡ some p → is after p ≡ true
-  unfolding holds consequent housed
-  opens x p r e t over = at (r .sign) (r .status) e (last (allowed sh m after (r .sign) (r .status)) _ _ _ t)
-    where
-      last : (a b c d : Bool) → a && b && c && d ≡ true → d ≡ true
-      last true true true d t = t
-      last true true false d t = absurd (false≢true t)
-      last true false c d t = absurd (false≢true t)
-      last false b c d t = absurd (false≢true t)
-
-      at : (g : Sign) (y : ℕ) → node g y ≡ up x → housed sh m after g (stageOver sh y) ≡ true → is after p ≡ true
-      at plus y e h = let q : y ≡ x = omega arith in rw (q, over) at h
-      at minus y e h = absurd (omega arith)
-
-  -- the implied rule of a stage that was yes holds where its parent goes from yes to no
-  shuts : (x p : ℕ) → is (m .before) x ≡ true → is (m .before) p ≡ true → is after p ≡ false → holds sh m after (closes x p) ≡ true
-  unfolding holds allowed triggered fulfilled housed
-  shuts x p b q a = rw (b, q, a)
-
-  -- so the test of `-x` holds then
-  closed : (x p : ℕ) → x < length (sh .stages) → getD (sh .stages) x nowhere .under ≡ some p
-      → is (m .before) x ≡ true → is (m .before) p ≡ true → is after p ≡ false → someHolds sh m after (down x) ≡ true
-  unfolding someHolds rulesFor allRules consequent
+  -- so `-x` holds then
+  closed : (x p : ℕ) → x < length stages → getD stages x nowhere .under ≡ some p
+      → is (m .before) x ≡ true → is (m .before) p ≡ true → is after p ≡ false → someHolds m after ts (down x) ≡ true
+  unfolding someHolds testsFor
   closed x p h u b q a =
-      let k : In (closes x p) (allRules sh) = in-right (closes x p) (sh .rules) (impliedFrom 0 (sh .stages)) (implied-in 0 (sh .stages) x x p (omega arith) h u) in
-      let i : In (closes x p) (rulesFor sh (down x)) = in-keep (λ (r : Rule). eqb (consequent r) (down x)) (closes x p) (allRules sh) k (eq-eqb (down x) (down x) refl) in
-      in-any (holds sh m after) (closes x p) (rulesFor sh (down x)) i (shuts x p b q a)
+      let i : In (closes x p) (testsFor ts (down x)) = in-keep (λ (t : Test). eqb (t .node) (down x)) (closes x p) ts (guards .shut x p h u) (eq-eqb (down x) (down x) refl) in
+      in-any (holds m after) (closes x p) (testsFor ts (down x)) i (shuts x p b q a)
 
   -- no stage is yes after under a parent that is no
-  pub stays-sheltered : orphan (m .before) 0 (sh .stages) ≡ none → Meets sh m after → orphan after 0 (sh .stages) ≡ none
-  unfolding someHolds nodes statuses stageOver
-  stays-sheltered sound meets = none-orphan after (sh .stages) (λ x h. at x h (getD (sh .stages) x nowhere .under) refl (is after x) refl)
+  pub stays-sheltered : length stages ≤ length (m .before) → orphan (m .before) 0 stages ≡ none → Meets ts m after → orphan after 0 stages ≡ none
+  unfolding someHolds housed
+  stays-sheltered few sound meets = none-orphan after stages (λ x h. at x h (getD stages x nowhere .under) refl (is after x) refl)
     where
-      room : (x : ℕ) → x < length (sh .stages) → down x < nodes sh
-      room x h = let l = length-append (sh .stages) (sh .miles) in omega arith
-
-      was-no : (x p : ℕ) → x < length (sh .stages) → getD (sh .stages) x nowhere .under ≡ some p → is after x ≡ true → is (m .before) x ≡ false → is after p ≡ true
+      was-no : (x p : ℕ) → x < length stages → getD stages x nowhere .under ≡ some p → is after x ≡ true → is (m .before) x ≡ false → is after p ≡ true
       was-no x p h u a b =
-          let l = room x h in
-          let t : someHolds sh m after (up x) ≡ true = sym (meets .exactly (up x) (omega arith)) ∙ changes-up (m .before) after x ∙ ap₂ (λ v w. not v && w) b a in
-          let (r, k, g) = any-in (holds sh m after) (rulesFor sh (up x)) t in
-          opens x p r (rule-of sh (up x) r k .1) g (ap (λ s. s .under) (front-at (sh .stages) (sh .miles) x h) ∙ u)
+          let t : someHolds m after ts (up x) ≡ true = sym (meets .exactly (up x) (omega arith)) ∙ changes-up (m .before) after x ∙ ap₂ (λ v w. not v && w) b a in
+          let (r, k, g) = any-in (holds m after) (testsFor ts (up x)) t in
+          let (i, e) = test-of ts (up x) r k in
+          rw (guards .asks x p h u r i e) at (holds-parts m after r g .home)
 
-      was-yes : (x p : ℕ) → x < length (sh .stages) → getD (sh .stages) x nowhere .under ≡ some p → is after x ≡ true → is (m .before) x ≡ true
+      was-yes : (x p : ℕ) → x < length stages → getD stages x nowhere .under ≡ some p → is after x ≡ true → is (m .before) x ≡ true
           → (b : Bool) → is after p ≡ b → is after p ≡ true
       was-yes x p h u a b true e = e
       was-yes x p h u a b false e =
-          let w : is (m .before) p ≡ true = not-false (is (m .before) p) (rw (b, u) at (orphan-none (m .before) (sh .stages) sound x h)) in
-          absurd (false≢true (sym (ap₂ (λ v w. v && not w) b a) ∙ sym (changes-down (m .before) after x) ∙ meets .exactly (down x) (room x h) ∙ closed x p h u b w e))
+          let w : is (m .before) p ≡ true = not-false (is (m .before) p) (rw (b, u) at (orphan-none (m .before) stages sound x h)) in
+          absurd (false≢true (sym (ap₂ (λ v w. v && not w) b a) ∙ sym (changes-down (m .before) after x) ∙ meets .exactly (down x) (omega arith) ∙ closed x p h u b w e))
 
-      over : (x p : ℕ) → x < length (sh .stages) → getD (sh .stages) x nowhere .under ≡ some p → is after x ≡ true → (b : Bool) → is (m .before) x ≡ b → is after p ≡ true
+      over : (x p : ℕ) → x < length stages → getD stages x nowhere .under ≡ some p → is after x ≡ true → (b : Bool) → is (m .before) x ≡ b → is after p ≡ true
       over x p h u a true b = was-yes x p h u a b (is after p) refl
       over x p h u a false b = was-no x p h u a b
 
-      at : (x : ℕ) → x < length (sh .stages) → (o : Option ℕ) → getD (sh .stages) x nowhere .under ≡ o → (a : Bool) → is after x ≡ a → a && shut after o ≡ false
+      at : (x : ℕ) → x < length stages → (o : Option ℕ) → getD stages x nowhere .under ≡ o → (a : Bool) → is after x ≡ a → a && shut after o ≡ false
       at x h o u false a = refl
       at x h none u true a = refl
       at x h (some p) u true a = ap not (over x p h u a (is (m .before) x) refl)

@@ -10,15 +10,11 @@ use lib.ListN.{length, set, length-set}
 use lib.Seq.{getD-set-same, getD-set-other, ext-getD}
 use borrow.Author.Tests.{eq-eqb, ne-eqb, not-true}
 use Rattle.meaning.specs.Card.{is}
-use Rattle.meaning.specs.Dependency.{up, down}
-use Rattle.meaning.specs.Step.{rose, fell, rising, changes, setIf}
+use Rattle.meaning.specs.Tests.{up, down}
+use Rattle.meaning.specs.Step.{rose, fell, rising, allowed, changes, setIf}
 use Rattle.theory.specs.Systems.{put, put-same, put-other}
 
 -- NODES AND STATUSES
-
--- the change of a node is one that the before side allows: `+x` of a no, `-x` of a yes
-unfoldable pub allows : List Bool → ℕ → Bool
-allows before k = cond (rising k) (not (is before (k / 2))) (is before (k / 2))
 
 -- the sign of `+x`
 up-rising : (k x : ℕ) → k ≡ up x → rising k ≡ true
@@ -53,16 +49,16 @@ changes-down before c x =
     rw (down-falling (down x) x refl, h)
 
 -- `+x` is allowed where x was no
-pub allows-up : (before : List Bool) (x : ℕ) → allows before (up x) ≡ not (is before x)
-unfolding allows
-allows-up before x =
+pub allowed-up : (before : List Bool) (x : ℕ) → allowed before (up x) ≡ not (is before x)
+unfolding allowed
+allowed-up before x =
     let h : up x / 2 ≡ x = omega arith in
     rw (up-rising (up x) x refl, h)
 
 -- `-x` is allowed where x was yes
-pub allows-down : (before : List Bool) (x : ℕ) → allows before (down x) ≡ is before x
-unfolding allows
-allows-down before x =
+pub allowed-down : (before : List Bool) (x : ℕ) → allowed before (down x) ≡ is before x
+unfolding allowed
+allowed-down before x =
     let h : down x / 2 ≡ x = omega arith in
     rw (down-falling (down x) x refl, h)
 
@@ -80,7 +76,7 @@ same-status before c d x u l =
 
 -- NODE VALUES AND SIDES
 
--- the side of node values: of the two values of a status, that of the change which the before side allows counts
+-- the side of node values: of the two values of a status, that of the change which the before side allowed counts
 unfoldable pub sideOf : List Bool → (ℕ → Bool) → List Bool
 sideOf [] f = []
 sideOf (b ∷ bs) f = cond b (not (f 1)) (f 0) ∷ sideOf bs (λ k. f (suc (suc k)))
@@ -131,9 +127,9 @@ side-changes before c l = side-by before c (changes before c) l (λ x h. rw (cha
     go true false = refl
     go false c = refl
 
--- the changes of the side of node values are those values that the before side allows
-pub changes-side : (before : List Bool) (f : ℕ → Bool) (k : ℕ) → k < length before * 2 → changes before (sideOf before f) k ≡ allows before k && f k
-unfolding changes allows
+-- the changes of the side of node values are those values that the before side allowed
+pub changes-side : (before : List Bool) (f : ℕ → Bool) (k : ℕ) → k < length before * 2 → changes before (sideOf before f) k ≡ allowed before k && f k
+unfolding changes allowed
 changes-side before f k h = go (signed k)
   where
     ups : (b p q : Bool) → not b && cond b p q ≡ not b && q
@@ -145,7 +141,7 @@ changes-side before f k h = go (signed k)
     downs true false q = refl
     downs false p q = refl
 
-    go : (k ≡ up (k / 2)) ⊎ (k ≡ down (k / 2)) → changes before (sideOf before f) k ≡ allows before k && f k
+    go : (k ≡ up (k / 2)) ⊎ (k ≡ down (k / 2)) → changes before (sideOf before f) k ≡ allowed before k && f k
     go (inl e) = rw (side-at before f (k / 2) (omega arith), up-rising k (k / 2) e, ← e) (ups (is before (k / 2)) _ (f k))
     go (inr e) = rw (side-at before f (k / 2) (omega arith), down-falling k (k / 2) e, ← e) (downs (is before (k / 2)) (f k) _)
 
@@ -155,7 +151,7 @@ unfolding changes
 changes-same before f g k e = go (decLt k (length before * 2))
   where
     go : Dec (k < length before * 2) → changes before (sideOf before f) k ≡ changes before (sideOf before g) k
-    go (yes h) = changes-side before f k h ∙ ap (λ b. allows before k && b) e ∙ sym (changes-side before g k h)
+    go (yes h) = changes-side before f k h ∙ ap (λ b. allowed before k && b) e ∙ sym (changes-side before g k h)
     go (no h) = rw (side-past before f (k / 2) (omega arith), side-past before g (k / 2) (omega arith))
 
 -- putting false where false stood changes nothing
@@ -167,7 +163,7 @@ put-false f k e = fun-ext (λ j. go j (ℕ-discrete j k))
     go j (no q) = sym (put-other f k false j q)
 
 -- setting the status on the side and setting the value of a node that wasn't set are the same
-pub set-side : (before : List Bool) (f : ℕ → Bool) (k : ℕ) (b : Bool) → f k ≡ false → (b ≡ true → allows before k ≡ true) → setIf b k (sideOf before f) ≡ sideOf before (put f k b)
+pub set-side : (before : List Bool) (f : ℕ → Bool) (k : ℕ) (b : Bool) → f k ≡ false → (b ≡ true → allowed before k ≡ true) → setIf b k (sideOf before f) ≡ sideOf before (put f k b)
 unfolding setIf
 set-side before f k false e g = ap (sideOf before) (put-false f k e)
 set-side before f k true e g =
@@ -177,10 +173,10 @@ set-side before f k true e g =
     there : (x : ℕ) → x ≡ k / 2 → (k ≡ up (k / 2)) ⊎ (k ≡ down (k / 2)) → rising k ≡ cond (is before x) (not (put f k true (down x))) (put f k true (up x))
     there x p (inl q) =
         let r : k ≡ up x = omega arith in
-        rw (up-rising k x r, not-true (is before x) (sym (allows-up before x) ∙ ap (allows before) (sym r) ∙ g refl), put-same f k true (up x) (sym r))
+        rw (up-rising k x r, not-true (is before x) (sym (allowed-up before x) ∙ ap (allowed before) (sym r) ∙ g refl), put-same f k true (up x) (sym r))
     there x p (inr q) =
         let r : k ≡ down x = omega arith in
-        rw (down-falling k x r, sym (allows-down before x) ∙ ap (allows before) (sym r) ∙ g refl, put-same f k true (down x) (sym r))
+        rw (down-falling k x r, sym (allowed-down before x) ∙ ap (allowed before) (sym r) ∙ g refl, put-same f k true (down x) (sym r))
 
     at : (x : ℕ) → x < length before → Dec (x ≡ k / 2) → is (set (sideOf before f) (k / 2) (rising k)) x ≡ cond (is before x) (not (put f k true (down x))) (put f k true (up x))
     at x h (yes p) =

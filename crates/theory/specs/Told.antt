@@ -8,8 +8,8 @@ use lib.ListN.{length, take, drop, length-drop, length-append}
 use lib.Dec.{eqb}
 use lib.Seq.{drop-drop, take-at}
 use Rattle.meaning.specs.Text.{begins, run}
-use Rattle.meaning.specs.Reading.{Got, got, wrong, Reader, after, _>>=_, give, refuse, choose, notEnded, stands, Word, oneOf, longest, paperEnd}
-use Rattle.theory.specs.Built.{BuiltIn, Inline, Built, give-built, refuse-built, choose-built, bind-built, notEnded-built, paperEnd-built, stands-built, longest-built, lineEnd-built}
+use Rattle.meaning.specs.Reading.{got, wrong, Reader, _>>=_, give, choose, notEnded, stands, Word, oneOf, longest, paperEnd}
+use Rattle.theory.specs.Built.{BuiltIn, Inline, give-built, refuse-built, choose-built, bind-built, notEnded-built, paperEnd-built, stands-built, longest-built, lineEnd-built}
 use Rattle.theory.specs.Readers.{Ensures}
 use Rattle.theory.specs.Spelling.{Spells}
 

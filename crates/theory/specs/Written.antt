@@ -12,12 +12,12 @@ use Rattle.meaning.specs.Limits.{cardBytes}
 use Rattle.meaning.specs.Reading.{Reader, each, demand, due, oneOf, lineEnd, paperEnd, paper}
 use Rattle.meaning.specs.Name.{Name, dueName}
 use Rattle.meaning.specs.Number.{Entry, middle, number, endLine}
-use Rattle.meaning.specs.Sheet.{Sheet, Status, statuses, statusNames}
+use Rattle.meaning.specs.Sheet.{Heads, Status, statuses, statusNames}
 use Rattle.meaning.specs.Card.{Card, fieldEntry, statusMark, marks, ended, card, orphan, sheltered, readCard}
 use Rattle.meaning.specs.Write.{line, lines, mark, cardText}
 use Rattle.theory.specs.Readers.{Yields, got-yields, wrong-yields, bind-yields, any-yields, each-length, Holds, refused-taken, taken-holds, paper-read, on-holds}
 use Rattle.theory.specs.Spelling.{Spells, give-spells, refuse-spells, choose-spells, bind-spells, knowing-spells, behind-spells, stands-spells, due-spells, lineEnd-spells, dueName-spells}
-use Rattle.theory.specs.Formed.{Well}
+use Rattle.theory.specs.Formed.{WellHeads}
 use Rattle.theory.specs.Entries.{entry-spells}
 use Rattle.theory.specs.Counts.{endLine-spells}
 
@@ -67,14 +67,14 @@ lines-spells shown r h (n ∷ ns) =
 -- THE TEXT OF A CARD
 
 -- all of it, from `case=` to `end=`
-card-spells : (sh : Sheet) → Well sh → Spells [] (card sh) (λ c. cardText sh (c .entries) (c .statuses))
+card-spells : (hd : Heads) → WellHeads hd → Spells [] (card hd) (λ c. cardText hd (c .entries) (c .statuses))
 unfolding card cardText line statusNames
-card-spells sh w =
+card-spells hd w =
     bind-spells (due-spells LINE (text "case=")) λ x.
-    bind-spells (ended-spells (dueName-spells (sh .model))) λ y.
-    knowing-spells (each-length (λ n. ended (fieldEntry n)) (sh .fields)) (lines-spells (λ (e : Entry). e .shown) (λ n. ended (fieldEntry n)) field-spells (sh .fields)) λ es p.
-    knowing-spells (each-length (λ n. ended (statusMark n)) (statusNames (statuses sh))) (lines-spells mark (λ n. ended (statusMark n)) status-spells (statusNames (statuses sh))) λ bs q.
-    bind-spells (endLine-spells (length es + length bs) (omega (arith, p, q, length-map (statuses sh) (λ (s : Status). s .name), w .fields-few, w .statuses-few))) λ z.
+    bind-spells (ended-spells (dueName-spells (hd .model))) λ y.
+    knowing-spells (each-length (λ n. ended (fieldEntry n)) (hd .fields)) (lines-spells (λ (e : Entry). e .shown) (λ n. ended (fieldEntry n)) field-spells (hd .fields)) λ es p.
+    knowing-spells (each-length (λ n. ended (statusMark n)) (statusNames (statuses hd))) (lines-spells mark (λ n. ended (statusMark n)) status-spells (statusNames (statuses hd))) λ bs q.
+    bind-spells (endLine-spells (length es + length bs) (omega (arith, p, q, length-map (statuses hd) (λ (s : Status). s .name), w .fields-few, w .statuses-few))) λ z.
     give-spells refl
 
 -- nothing stands behind it
@@ -94,30 +94,30 @@ endLine-ends n l s =
     paperEnd-ends m d
 
 -- the card
-card-ends : (sh : Sheet) (l : ℕ) (s : List ℕ) → Yields (card sh l s) (λ c t. t ≡ [])
+card-ends : (hd : Heads) (l : ℕ) (s : List ℕ) → Yields (card hd l s) (λ c t. t ≡ [])
 unfolding card
-card-ends sh l s =
+card-ends hd l s =
     any-yields (due LINE (text "case=") l s) λ _ i a.
-    any-yields (ended (dueName (sh .model)) i a) λ _ j b.
-    any-yields (each (λ n. ended (fieldEntry n)) (sh .fields) j b) λ es k c.
-    any-yields (each (λ n. ended (statusMark n)) (statusNames (statuses sh)) k c) λ bs m d.
+    any-yields (ended (dueName (hd .model)) i a) λ _ j b.
+    any-yields (each (λ n. ended (fieldEntry n)) (hd .fields) j b) λ es k c.
+    any-yields (each (λ n. ended (statusMark n)) (statusNames (statuses hd)) k c) λ bs m d.
     bind-yields (endLine-ends (length es + length bs) m d) λ _ n t e.
     got-yields e
 
 -- the paper is the text of the card taken from it
-pub card-text : (sh : Sheet) → Well sh → (s : List ℕ) (c : Card) → paper 2 cardBytes (card sh) s ≡ taken c → s ≡ cardText sh (c .entries) (c .statuses)
-card-text sh w s c e =
-    let (f, (k, t, q)) = paper-read 2 cardBytes (card sh) s c e in
-    card-spells sh w .reads 1 s .of c k t q ∙ ap (λ z. cardText sh (c .entries) (c .statuses) ++ z) (card-ends sh 1 s .of c k t q) ∙ append-nil (cardText sh (c .entries) (c .statuses))
+pub card-text : (hd : Heads) → WellHeads hd → (s : List ℕ) (c : Card) → paper 2 cardBytes (card hd) s ≡ taken c → s ≡ cardText hd (c .entries) (c .statuses)
+card-text hd w s c e =
+    let (f, (k, t, q)) = paper-read 2 cardBytes (card hd) s c e in
+    card-spells hd w .reads 1 s .of c k t q ∙ ap (λ z. cardText hd (c .entries) (c .statuses) ++ z) (card-ends hd 1 s .of c k t q) ∙ append-nil (cardText hd (c .entries) (c .statuses))
 
 -- and so is every card that is taken
-pub readCard-text : (sh : Sheet) → Well sh → (s : List ℕ) → Holds (readCard sh s) (λ c. s ≡ cardText sh (c .entries) (c .statuses))
+pub readCard-text : (hd : Heads) → WellHeads hd → (s : List ℕ) → Holds (readCard hd s) (λ c. s ≡ cardText hd (c .entries) (c .statuses))
 unfolding readCard
-readCard-text sh w s = on-holds P P (paper 2 cardBytes (card sh) s) _ (card-text sh w s) (λ c h. go c h (orphan (c .statuses) 0 (sh .stages)))
+readCard-text hd w s = on-holds P P (paper 2 cardBytes (card hd) s) _ (card-text hd w s) (λ c h. go c h (orphan (c .statuses) 0 (hd .stages)))
   where
     P : Card → Type 0
-    P c = s ≡ cardText sh (c .entries) (c .statuses)
+    P c = s ≡ cardText hd (c .entries) (c .statuses)
 
-    go : (c : Card) → P c → (x : Option ℕ) → Holds (sheltered sh c x) P
+    go : (c : Card) → P c → (x : Option ℕ) → Holds (sheltered hd c x) P
     go c h none = taken-holds P c h
-    go c h (some x) = λ a e. absurd (refused-taken ORPHAN 2 (2 + length (sh .fields) + x) a e)
+    go c h (some x) = λ a e. absurd (refused-taken ORPHAN 2 (2 + length (hd .fields) + x) a e)

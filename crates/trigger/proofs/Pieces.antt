@@ -22,12 +22,12 @@ use Rattle.theory.specs.BuiltPapers.{trigger-built}
 use Rattle.theory.specs.Readers.{Yields, Ensures, any-ensures, give-ensures}
 use Rattle.theory.specs.Names.{known-below}
 use Rattle.theory.specs.Told.{Any, took}
-use Rattle.theory.specs.Answered.{here, behind, Ends, inline-ends, ensured-ends, bytes, fault, Kind, Left, left-start, left-at, left-answer, left-got, Next, left-on, left-off}
+use Rattle.theory.specs.Answered.{behind, inline-ends, ensured-ends, bytes, fault, Kind, Left, left-start, left-at, left-answer, left-got, Next, left-on, left-off}
 use Rattle.text.specs.Packed.{named}
 use Rattle.text.specs.Answers.{asKnown}
 use Rattle.text.specs.declared.Known.{Known}
 use Rattle.text.specs.declared.Known.the-variants as K
-use Rattle.text.proofs.Callers.{begins-fits, stands-here, stands-not, known-got, known-wrong, known-place, known-fits, known-few}
+use Rattle.text.proofs.Callers.{begins-fits, stands-here, stands-not, known-got, known-wrong, known-fits, known-few}
 use Rattle.trigger.specs.declared.Trigger.{Trigger}
 use Rattle.trigger.specs.declared.Trigger.the-variants.{Always, Event, Rise, Fall}
 use Rattle.trigger.specs.declared.TriggerRead.{TriggerRead}

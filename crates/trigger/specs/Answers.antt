@@ -12,7 +12,6 @@ use Rattle.meaning.specs.ReadSheet.{signs, trigger}
 use Rattle.theory.specs.Answer.{asRead}
 use Rattle.trigger.specs.declared.Trigger.{Trigger}
 use Rattle.trigger.specs.declared.Trigger.the-variants.{Always, Event, Rise, Fall}
-use Rattle.trigger.specs.declared.Start.{Start}
 use Rattle.trigger.specs.declared.StartRead.{StartRead}
 use Rattle.trigger.specs.declared.StartRead.the-variants as S
 

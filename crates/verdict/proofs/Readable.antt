@@ -8,12 +8,11 @@ use mathlib.Core.Logic.{⊎-elim}
 use native.Mathlib.Omega.{arith}
 use lib.ListN.{length}
 use lib.Dec.{ltb, eqb}
-use Rattle.meaning.specs.Text.{In, text, find, run}
+use Rattle.meaning.specs.Text.{In, text, find}
 use Rattle.meaning.specs.Refusal.{COND, FULL}
 use Rattle.meaning.specs.Limits.{leafLimit, nestLimit}
 use Rattle.meaning.specs.Reading.{Reader, refuse, demand, notEnded, stands, due}
-use Rattle.meaning.specs.Name.{Name, name, digit}
-use Rattle.meaning.specs.Number.{middle, limit, digits, place, number}
+use Rattle.meaning.specs.Name.{Name, name}
 use Rattle.meaning.specs.Condition.{Leaf, Cond, And, Item, leavesC, leavesA, leavesI}
 use Rattle.meaning.specs.ReadCondition.{operator, named, readLeaf, readAnd, readCond, itemWith, readItem, condition}
 use Rattle.theory.specs.Lists.{in-cases}

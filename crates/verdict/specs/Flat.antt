@@ -2,7 +2,7 @@
 use Prim.Native.Nat.{ℕ, suc, _+_, _*_}
 use mathlib.Core.Bool.{Bool, true, false, not}
 use mathlib.Core.List.{List, [], _∷_, _++_}
-use Rattle.meaning.specs.Condition.{Operator, below, atMost, equal, atLeast, above, Comparison, Leaf, Cond, And, Item}
+use Rattle.meaning.specs.Condition.{Operator, below, atMost, equal, atLeast, above, Leaf, Cond, And, Item}
 
 -- a word: its kind, below 8, the place of a status or field, below 32, and a number
 unfoldable pub word : ℕ → ℕ → ℕ → ℕ

@@ -11,17 +11,17 @@ use borrow.Author.Tests.{eq-eqb, ne-eqb, eqb-true, eqb-false}
 use lib.Dec.{eqb}
 use lib.ListN.{length, take, drop, getD, set, replicate, length-append, length-map, length-set, List·getD-append, List·getD-map}
 use lib.Seq.{take-append-seam, take-at, drop-at, drop-drop, getD-set-same, getD-set-other}
-use Rattle.meaning.specs.Text.{text, joined, from, In}
+use Rattle.meaning.specs.Text.{text, from, In}
 use Rattle.meaning.specs.Refusal.{taken}
 use Rattle.meaning.specs.Name.{Name}
-use Rattle.meaning.specs.Number.{Entry, decimal}
-use Rattle.meaning.specs.Sheet.{Sheet, Event, statuses, statusNames, eventNames}
+use Rattle.meaning.specs.Number.{Entry}
+use Rattle.meaning.specs.Sheet.{Heads, statuses, eventNames}
 use Rattle.meaning.specs.Card as M
-use Rattle.meaning.specs.Card.{Put, readCard, readEvent, carriedBy}
+use Rattle.meaning.specs.Card.{Put, readCard, readEvent}
 use Rattle.meaning.specs.Step.{putIn}
 use Rattle.meaning.specs.Write.{line, lines, mark, cardText}
 use Rattle.theory.specs.Lists.{Once, from-length}
-use Rattle.theory.specs.Formed.{Well}
+use Rattle.theory.specs.Formed.{WellHeads}
 use Rattle.theory.specs.Cards.{CardIn}
 use Rattle.theory.specs.Papers.{card-holds}
 use Rattle.theory.specs.Accepted.{put-length}
@@ -146,45 +146,45 @@ marks-back [] = refl
 marks-back (true ∷ bs) = ap (λ r. true ∷ r) (marks-back bs)
 marks-back (false ∷ bs) = ap (λ r. false ∷ r) (marks-back bs)
 
-module _ (sh : Sheet) (well : Well sh) (sc se : List ℕ) (mc : M.Card) (mh : M.Happening) (card-taken : readCard sh sc ≡ taken mc) (event-taken : readEvent sh se ≡ taken mh) where
-  card-in : CardIn sh mc
-  card-in = card-holds sh sc mc card-taken .0
+module _ (hd : Heads) (well : WellHeads hd) (sc se : List ℕ) (mc : M.Card) (mh : M.Happening) (card-taken : readCard hd sc ≡ taken mc) (event-taken : readEvent hd se ≡ taken mh) where
+  card-in : CardIn hd mc
+  card-in = card-holds hd sc mc card-taken .0
 
-  module _ (d : Entry) (f : ℕ) (within : f < length (sh .fields)) where
-    value-is : valueText se sc (asHappening sh mh) (asCard sh mc) f ≡ getD (putIn (mh .puts) (mc .entries)) f d .shown
+  module _ (d : Entry) (f : ℕ) (within : f < length (hd .fields)) where
+    value-is : valueText se sc (asHappening hd mh) (asCard hd mc) f ≡ getD (putIn (mh .puts) (mc .entries)) f d .shown
     unfolding valueText asHappening asCard
     value-is =
         rw (padded-all 16 (map (λ p. p .field) (mh .puts)) (length (mh .puts)) (sym (length-map (mh .puts) (λ p. p .field))))
         (go (foundIn f (map (λ p. p .field) (mh .puts))) refl)
       where
-        go : (x : Found) → foundIn f (map (λ p. p .field) (mh .puts)) ≡ x → shownBy se sc (asHappening sh mh) (asCard sh mc) f x ≡ getD (putIn (mh .puts) (mc .entries)) f d .shown
+        go : (x : Found) → foundIn f (map (λ p. p .field) (mh .puts)) ≡ x → shownBy se sc (asHappening hd mh) (asCard hd mc) f x ≡ getD (putIn (mh .puts) (mc .entries)) f d .shown
         go (F.At i) q =
             let few : i < length (mh .puts) = omega (arith, found-within f (map (λ p. p .field) (mh .puts)) i q, length-map (mh .puts) (λ (p : Put). p .field)) in
-            shown-at se d (map (λ p. getD (sh .fields) (p .field) []) (mh .puts)) (map (λ p. p .entry) (mh .puts)) (length (getD (eventNames (sh .events)) (mh .event) []) + 1) (event-at sh well se mh event-taken)
-            (length-map (mh .puts) (λ (p : Put). getD (sh .fields) (p .field) []) ∙ sym (length-map (mh .puts) (λ (p : Put). p .entry)))
+            shown-at se d (map (λ p. getD (hd .fields) (p .field) []) (mh .puts)) (map (λ p. p .entry) (mh .puts)) (length (getD (eventNames (hd .events)) (mh .event) []) + 1) (event-at hd well se mh event-taken)
+            (length-map (mh .puts) (λ (p : Put). getD (hd .fields) (p .field) []) ∙ sym (length-map (mh .puts) (λ (p : Put). p .entry)))
             i (omega (arith, length-map (mh .puts) (λ (p : Put). p .entry)))
             ∙ ap (λ (e : Entry). e .shown) (List·getD-map (λ (p : Put). p .entry) (mh .puts) i (record { field = 0; entry = d })
-            ∙ sym (put-found d (record { field = 0; entry = d }) f (mh .puts) (mc .entries) i (omega (arith, card-in .entries)) (once sh well se mh event-taken) q))
+            ∙ sym (put-found d (record { field = 0; entry = d }) f (mh .puts) (mc .entries) i (omega (arith, card-in .entries)) (once hd well se mh event-taken) q))
         go F.Nothing q =
-            shown-at sc d (sh .fields) (mc .entries) (5 + length (sh .model) + 1) (card-at sh well sc mc card-taken) (sym (card-in .entries)) f (omega (arith, card-in .entries))
+            shown-at sc d (hd .fields) (mc .entries) (5 + length (hd .model) + 1) (card-at hd well sc mc card-taken) (sym (card-in .entries)) f (omega (arith, card-in .entries))
             ∙ ap (λ (e : Entry). e .shown) (sym (put-kept d f (mh .puts) (mc .entries) q))
 
-  module _ (c : Card) (e : Happening) (c-is : c ≡ asCard sh mc) (e-is : e ≡ asHappening sh mh) where
+  module _ (c : Card) (e : Happening) (c-is : c ≡ asCard hd mc) (e-is : e ≡ asHappening hd mh) where
     -- the text of a field is that of its entry after the event
-    pub value-after : (d : Entry) (f : ℕ) → f < length (sh .fields) → valueText se sc e c f ≡ getD (putIn (mh .puts) (mc .entries)) f d .shown
+    pub value-after : (d : Entry) (f : ℕ) → f < length (hd .fields) → valueText se sc e c f ≡ getD (putIn (mh .puts) (mc .entries)) f d .shown
     value-after d f h = rw (c-is, e-is) (value-is d f h)
 
     -- and the next card is that of the meaning
-    pub next-after : (after : List Bool) → length after ≡ length (statuses sh)
-        → nextText sh se sc e c (padded 32 0 (map markCode after)) ≡ cardText sh (putIn (mh .puts) (mc .entries)) after
+    pub next-after : (after : List Bool) → length after ≡ length (statuses hd)
+        → nextText hd se sc e c (padded 32 0 (map markCode after)) ≡ cardText hd (putIn (mh .puts) (mc .entries)) after
     unfolding nextText cardText
     next-after after h =
         let es = putIn (mh .puts) (mc .entries) in
         let d : Entry = showing [] in
-        let many : length (sh .fields) ≡ length es = sym (put-length (mh .puts) (mc .entries) ∙ card-in .entries) in
-        let marks : map isYes (take (length (statuses sh)) (padded 32 0 (map markCode after))) ≡ after
-        = ap (map isYes) (padded-all 32 (map markCode after) (length (statuses sh)) (sym (length-map after markCode ∙ h))) ∙ marks-back after in
-        let fields = lines-shown d (valueText se sc e c) (sh .fields) es 0 many (λ k g. let z : 0 + k ≡ k = omega arith in rw z (value-after d k (omega arith))) in
-        let count : length (map (λ f. showing (valueText se sc e c f)) (from 0 (length (sh .fields)))) ≡ length es
-        = length-map (from 0 (length (sh .fields))) (λ f. showing (valueText se sc e c f)) ∙ from-length (length (sh .fields)) 0 ∙ many in
+        let many : length (hd .fields) ≡ length es = sym (put-length (mh .puts) (mc .entries) ∙ card-in .entries) in
+        let marks : map isYes (take (length (statuses hd)) (padded 32 0 (map markCode after))) ≡ after
+        = ap (map isYes) (padded-all 32 (map markCode after) (length (statuses hd)) (sym (length-map after markCode ∙ h))) ∙ marks-back after in
+        let fields = lines-shown d (valueText se sc e c) (hd .fields) es 0 many (λ k g. let z : 0 + k ≡ k = omega arith in rw z (value-after d k (omega arith))) in
+        let count : length (map (λ f. showing (valueText se sc e c f)) (from 0 (length (hd .fields)))) ≡ length es
+        = length-map (from 0 (length (hd .fields))) (λ f. showing (valueText se sc e c f)) ∙ from-length (length (hd .fields)) 0 ∙ many in
         rw (marks, fields, count)

@@ -8,7 +8,8 @@ use borrow.Author.Tests.{le-leb, lt-leb}
 use lib.ListN.{length, drop, take, getD, length-append, length-take, length-drop, length-map}
 use Rattle.meaning.specs.Text.{text, from}
 use Rattle.meaning.specs.Number.{Entry, decimal}
-use Rattle.meaning.specs.Sheet.{Sheet, Status, statuses, statusNames}
+use Rattle.meaning.specs.Sheet as M
+use Rattle.meaning.specs.Sheet.{Status, statuses, statusNames}
 use Rattle.meaning.specs.Write.{line, lines, mark, cardText}
 use Rattle.theory.specs.Lists.{from-length}
 use Rattle.theory.specs.Accepted.{line-length}
@@ -19,7 +20,6 @@ use Rattle.card.specs.declared.Card.{Card}
 use Rattle.card.proofs.Rows.{names-length}
 use Rattle.card.proofs.Sheets.{length-held, model-is, fields-are, statuses-are}
 use Rattle.event.specs.declared.Happening.{Happening}
-use Rattle.write.specs.declared.Written.{Written}
 use Rattle.write.specs.declared.Written.the-variants.{Bytes, Room}
 use Rattle.write.specs.Texts.{showing, valueText, nextText}
 use Rattle.write.specs.Answers.{asWritten, spaceWith}

@@ -5,7 +5,7 @@ use mathlib.Core.Option.{Option, none, some}
 use lib.ListN.{length, take, drop, getD}
 use Rattle.meaning.specs.Text.{from}
 use Rattle.meaning.specs.Number.{Entry, missing}
-use Rattle.meaning.specs.Sheet.{Sheet, statuses}
+use Rattle.meaning.specs.Sheet.{Heads, statuses}
 use Rattle.meaning.specs.Write.{cardText}
 use Rattle.text.specs.Answers.{foundIn}
 use Rattle.text.specs.declared.Found.{Found}
@@ -32,6 +32,6 @@ abbrev pub showing : List ℕ → Entry
 showing t = record { shown = t; value = missing }
 
 -- the next card
-unfoldable pub nextText : Sheet → List ℕ → List ℕ → Happening → Card → List ℕ → List ℕ
-nextText sh event card e c marks =
-    cardText sh (map (λ f. showing (valueText event card e c f)) (from 0 (length (sh .fields)))) (map isYes (take (length (statuses sh)) marks))
+unfoldable pub nextText : Heads → List ℕ → List ℕ → Happening → Card → List ℕ → List ℕ
+nextText hd event card e c marks =
+    cardText hd (map (λ f. showing (valueText event card e c f)) (from 0 (length (hd .fields)))) (map isYes (take (length (statuses hd)) marks))

@@ -8,14 +8,14 @@ use Rattle.accepted.proofs.refused.Tie as tie
 no-heads-requires : tie.Need-no-heads-requires
 no-heads-requires c κs = search (needs, refused-is)
 
-no-rules-requires : tie.Need-no-rules-requires
-no-rules-requires c κs = search (needs, refused-is)
+no-tests-requires : tie.Need-no-tests-requires
+no-tests-requires c κs = search (needs, refused-is)
 
-plan-rules-requires : tie.Need-plan-rules-requires
-plan-rules-requires c κs = search (needs, refused-is)
+plan-tests-requires : tie.Need-plan-tests-requires
+plan-tests-requires c κs = search (needs, refused-is)
 
 returns : tie.Need-returns
 returns c = search (needs, refused-is)
 
 pub refused-spec : {M : Type 1} → statement M
-refused-spec = tie.close (tie.spec no-heads-requires no-rules-requires plan-rules-requires returns)
+refused-spec = tie.close (tie.spec no-heads-requires no-tests-requires plan-tests-requires returns)

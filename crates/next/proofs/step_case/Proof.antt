@@ -5,8 +5,11 @@ use Rattle.next.proofs.Laws.{stepping}
 use Rattle.next.proofs.step_case.Statement.{statement}
 use Rattle.next.proofs.step_case.Tie as tie
 
-marks-after-requires : tie.Need-marks-after-requires
-marks-after-requires c κs = search (needs, stepping)
+moment-of-requires : tie.Need-moment-of-requires
+moment-of-requires c κs = search (needs, stepping)
+
+run-step-requires : tie.Need-run-step-requires
+run-step-requires c κs = search (needs, stepping)
 
 write-card-requires : tie.Need-write-card-requires
 write-card-requires c κs = search (needs, stepping)
@@ -39,7 +42,8 @@ pub step-case-spec : {M : Type 1} → statement M
 step-case-spec =
     tie.close
     (tie.spec
-    marks-after-requires
+    moment-of-requires
+    run-step-requires
     write-card-requires
     enum-known-written
     enum-told

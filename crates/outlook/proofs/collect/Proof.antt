@@ -1,3 +1,5 @@
+-- Choice after choice, from the last: the front holds the patterns of those from x on.
+-- Assumes nothing.
 use borrow.Author.Needs.{needs}
 use Rattle.combos.specs.Numbered.{split}
 use Rattle.outlook.proofs.Laws.{Collecting, collect-more, collect-done, collecting}
@@ -5,11 +7,11 @@ use Rattle.outlook.proofs.collect.Statement.{statement}
 use Rattle.outlook.proofs.collect.Tie as tie
 
 abbrev Inv-loop : tie.InvT-loop
-Inv-loop plan order words under stages statuses event before count lens flat patterns₀ n₀ x₀ patterns n x =
-    Collecting (record { plan = plan; order = order; words = words; under = under; stages = stages; statuses = statuses; event = event; before = before }) (split lens flat) count patterns₀ patterns n x
+Inv-loop plan words count lens flat patterns₀ event before n₀ x₀ patterns n x =
+    Collecting (record { plan = plan; words = words; event = event; before = before }) (split lens flat) count patterns₀ patterns n x
 
 abbrev μ-loop : tie.MeasureT-loop
-μ-loop plan order words under stages statuses event before count lens flat patterns₀ n₀ x₀ patterns n x = x
+μ-loop plan words count lens flat patterns₀ event before n₀ x₀ patterns n x = x
 
 loop-holds : tie.Need-loop-holds Inv-loop μ-loop
 loop-holds c = search (needs, collecting)
@@ -31,8 +33,8 @@ loop-less c = search (needs, collecting)
 
 loop-again : tie.Need-loop-again Inv-loop μ-loop
 loop-again c =
-    let l = c .before .before .before .before .before .before .before .before in
-    collect-more _ _ _ _ (l .loop .patterns) (l .loop .n) (l .loop .x) (l .loop .inv) (search needs) _ (search needs) _ (c .before .before .before .before .before .before .combo .ensures)
+    let l = c .before .before .before .before .before .before .before in
+    collect-more _ _ _ _ (l .loop .patterns) (l .loop .n) (l .loop .x) (l .loop .inv) (search needs) _ (search needs) _ (c .before .before .before .before .before .combo .ensures)
     _ (c .before .before .before .before .pattern-with .ensures) _ _ (c .before .before .insert .ensures)
 
 same-length : tie.Need-same-length Inv-loop μ-loop

@@ -1,3 +1,5 @@
+-- The list where it fits; MANY, or ROOM.
+-- Assumes nothing.
 use borrow.Author.Needs.{needs}
 use Rattle.outlook.proofs.Laws.{answering}
 use Rattle.outlook.proofs.outlook_case.Statement.{statement}

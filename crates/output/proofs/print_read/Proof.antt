@@ -1,7 +1,7 @@
 -- The next card, then the tasks, then the outlook.
 -- Assumes nothing.
 use borrow.Author.Needs.{needs}
-use Rattle.output.proofs.Laws.{read-held, read-names, read-starts, read-ready, read-listed, reading}
+use Rattle.output.proofs.Laws.{read-held, read-names, read-starts, read-ready, read-listed, read-done, reading}
 use Rattle.output.proofs.print_read.Statement.{statement}
 use Rattle.output.proofs.print_read.Tie as tie
 
@@ -17,6 +17,9 @@ add-put-starts c = search (needs, reading)
 put-starts-requires : tie.Need-put-starts-requires
 put-starts-requires c κs = (search read-names, search read-starts)
 
+moment-of-requires : tie.Need-moment-of-requires
+moment-of-requires c κs = search (needs, reading)
+
 put-outlook-requires : tie.Need-put-outlook-requires
 put-outlook-requires c κs = (search read-ready, search read-listed)
 
@@ -24,7 +27,10 @@ same-length : tie.Need-same-length
 same-length c = search (needs, reading)
 
 returns : tie.Need-returns
-returns c = search (needs, reading)
+returns c =
+    let s = c .before .before .before .before .before .before .before .before .before .before .before .before .before .before .before .before .before .before .before .before in
+    let r = c .before .before .before .before .before .before .before .before .before .before .before .before .before .step-case in
+    read-done _ _ _ _ _ (s .pre .0) _ (s .pre .1) _ _ (r .ensures .0) (r .ensures .1) _ _ (c .before .before .before .before .before .before .before .put-starts .ensures) _ (c .before .before .before .before .moment-of .ensures) _ _ (c .before .before .put-outlook .ensures)
 
 pub print-read-spec : {M : Type 1} → statement M
 print-read-spec =
@@ -34,6 +40,7 @@ print-read-spec =
     slice-aggregate-put-starts
     add-put-starts
     put-starts-requires
+    moment-of-requires
     put-outlook-requires
     same-length
     returns)

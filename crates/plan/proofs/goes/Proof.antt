@@ -1,15 +1,9 @@
--- `goes` says whether a rule is the node's and there is room: the tests in turn.
+-- `goes` says whether a test is the node's and there is room: the tests in turn.
 -- Assumes nothing.
 use borrow.Author.Needs.{needs}
 use Rattle.plan.proofs.Laws.{choosing}
 use Rattle.plan.proofs.goes.Statement.{statement}
 use Rattle.plan.proofs.goes.Tie as tie
-
-node-of-requires : tie.Need-node-of-requires
-node-of-requires c κs = search (needs, choosing)
-
-wide-requires : tie.Need-wide-requires
-wide-requires c κs = search (needs, choosing)
 
 returns : tie.Need-returns
 returns c = search (needs, choosing)
@@ -18,4 +12,4 @@ returns-2 : tie.Need-returns-2
 returns-2 c = search (needs, choosing)
 
 pub goes-spec : {M : Type 1} → statement M
-goes-spec = tie.close (tie.spec node-of-requires wide-requires returns returns-2)
+goes-spec = tie.close (tie.spec returns returns-2)

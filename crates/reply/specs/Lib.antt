@@ -1,0 +1,2 @@
+-- What the code returns for what the meaning says:
+pub mod Answers

@@ -1,0 +1,93 @@
+-- Laws of the functions: what is read of the marks, and the parts of a test.
+use Prim.Native.Nat.{ℕ, zero, suc, _-_, _≤_}
+use mathlib.Core.Path.{_≡_, refl, sym, ap, _∙_}
+use mathlib.Core.Bool.{Bool, true, false, not, _&&_, and-false}
+use mathlib.Core.List.{List}
+use native.Mathlib.Omega.{arith}
+use lib.Dec.{eqb}
+use lib.ListN.{length, List·getD-eq-default, getD, take, drop}
+use borrow.Author.Tests.{eq-eqb, ne-eqb, not-true, not-false}
+use Rattle.verdict.specs.Machine.{verdictOf}
+use Rattle.trigger.specs.declared.Trigger.{Trigger}
+use Rattle.trigger.specs.declared.Trigger.the-variants.{Event, Rise, Fall}
+use Rattle.tests.specs.declared.Test.{Test}
+use Rattle.test.specs.declared.Moment.{Moment}
+use Rattle.test.specs.Met as met
+use Rattle.test.specs.Met.{roseIn, fellIn, triggerMet, homeMet, conditionMet, testMet}
+
+-- MARKS
+
+module _ (list : List ℕ) (x at : ℕ) (is : at ≡ x) where
+  pub entry-in : getD list at 0 ≡ getD list x 0
+  entry-in = ap (λ n. getD list n 0) is
+
+  pub entry-out : length list ≤ at → 0 ≡ getD list x 0
+  entry-out h = sym (List·getD-eq-default list 0 {n = x} (omega arith))
+
+pub yes-is : (marks : List ℕ) (x e : ℕ) → e ≡ getD marks x 0 → eqb e 2 ≡ met.yes marks x
+yes-is marks x e is = ap (λ n. eqb n 2) is
+
+module _ (before after : List ℕ) (x : ℕ) (b : Bool) (is : b ≡ met.yes after x) where
+  pub rose-not : not b ≡ true → false ≡ roseIn before after x
+  rose-not t = rw (← is, not-true b t) (sym (and-false (not (met.yes before x))))
+
+  pub rose-is : not b ≡ false → (a : Bool) → a ≡ met.yes before x → not a ≡ roseIn before after x
+  rose-is t a e = rw (← is, not-false b t, ← e) (sym (and-true (not a)))
+    where
+      and-true : (c : Bool) → c && true ≡ c
+      and-true true = refl
+      and-true false = refl
+
+module _ (before after : List ℕ) (x : ℕ) (b : Bool) (is : b ≡ met.yes before x) where
+  pub fell-not : not b ≡ true → false ≡ fellIn before after x
+  fell-not t = rw (← is, not-true b t)
+
+  pub fell-is : not b ≡ false → (a : Bool) → a ≡ met.yes after x → not a ≡ fellIn before after x
+  fell-is t a e = rw (← is, not-false b t, ← e)
+
+pub ruleset marking = (entry-in, entry-out, yes-is, rose-not, rose-is, fell-not, fell-is)
+
+-- THE PARTS OF A TEST
+
+module _ (event : ℕ) (before after : List ℕ) (t : Trigger) where
+  pub trigger-event : (e w : ℕ) → t ≡ Event e → w ≡ e → eqb w event ≡ triggerMet event before after t
+  trigger-event e w z is = rw (z, is)
+
+  pub trigger-rise : (y : ℕ) (b : Bool) → t ≡ Rise y → b ≡ roseIn before after y → b ≡ triggerMet event before after t
+  trigger-rise y b z e = rw z e
+
+  pub trigger-fall : (y : ℕ) (b : Bool) → t ≡ Fall y → b ≡ fellIn before after y → b ≡ triggerMet event before after t
+  trigger-fall y b z e = rw z e
+
+module _ (words values after : List ℕ) (from to : ℕ) where
+  pub condition-none : from ≡ to → true ≡ conditionMet words values after from to
+  unfolding conditionMet
+  condition-none h = rw (eq-eqb from to h)
+
+  pub condition-is : (from ≡ to → ⊥) → (f t v : ℕ) → f ≡ from → t ≡ to → v ≡ verdictOf values after (take (t - f) (drop f words)) → eqb v 2 ≡ conditionMet words values after from to
+  unfolding conditionMet
+  condition-is h f t v p q e = rw (ne-eqb from to h, ← p, ← q, ← e)
+
+pub home-some : (after : List ℕ) (h : ℕ) (b : Bool) → (h ≡ 0 → ⊥) → b ≡ met.yes after (h - 1) → b ≡ homeMet after h
+home-some after zero b n e = absurd (n refl)
+home-some after (suc p) b n e = let z : suc p - 1 ≡ p = omega arith in e ∙ ap (met.yes after) z
+
+module _ (words : List ℕ) (event : ℕ) (values before after : List ℕ) (t : Test) where
+  abbrev at : Moment
+  at = record { event = event; values = values; before = before }
+
+  module _ (a : Bool) (fires : a ≡ triggerMet event before after (t .trigger)) where
+    pub test-quiet : not a ≡ true → false ≡ testMet words at after t
+    unfolding testMet
+    test-quiet q = rw (← fires, not-true a q)
+
+    module _ (q : not a ≡ false) (b : Bool) (housed : b ≡ homeMet after (t .home)) where
+      pub test-closed : not b ≡ true → false ≡ testMet words at after t
+      unfolding testMet
+      test-closed u = rw (← fires, not-false a q, ← housed, not-true b u)
+
+      pub test-asked : not b ≡ false → (c : Bool) → c ≡ conditionMet words values after (t .from) (t .to) → c ≡ testMet words at after t
+      unfolding testMet
+      test-asked u c e = rw (← fires, not-false a q, ← housed, not-false b u) e
+
+pub ruleset testing = (trigger-event, trigger-rise, trigger-fall, condition-none, condition-is, home-some, test-quiet, test-closed, test-asked)

@@ -1,0 +1,4 @@
+-- A test on marks:
+pub mod Met
+-- and what it reads of a moment:
+pub mod Codes

@@ -1,0 +1,43 @@
+-- A test on the tables of a sheet and the marks of the statuses before and after, 0 for no and 2 for yes.
+use Prim.Native.Nat.{ℕ, zero, suc, _-_}
+use mathlib.Core.Bool.{Bool, true, not, _&&_, _||_}
+use mathlib.Core.List.{List}
+use lib.Dec.{eqb}
+use lib.ListN.{getD, take, drop}
+use Rattle.verdict.specs.Machine.{verdictOf}
+use Rattle.trigger.specs.declared.Trigger.{Trigger}
+use Rattle.trigger.specs.declared.Trigger.the-variants.{Always, Event, Rise, Fall}
+use Rattle.tests.specs.declared.Test.{Test}
+use Rattle.test.specs.declared.Moment.{Moment}
+
+-- a status is yes
+abbrev pub yes : List ℕ → ℕ → Bool
+yes marks x = eqb (getD marks x 0) 2
+
+-- it rose,
+abbrev pub roseIn : List ℕ → List ℕ → ℕ → Bool
+roseIn before after x = not (yes before x) && yes after x
+
+-- it fell
+abbrev pub fellIn : List ℕ → List ℕ → ℕ → Bool
+fellIn before after x = yes before x && not (yes after x)
+
+-- the trigger of a test: none, the event, or a change
+abbrev pub triggerMet : ℕ → List ℕ → List ℕ → Trigger → Bool
+triggerMet event before after Always = true
+triggerMet event before after (Event e) = eqb e event
+triggerMet event before after (Rise y) = roseIn before after y
+triggerMet event before after (Fall y) = fellIn before after y
+
+-- the stage that is asked for, if any, is yes
+abbrev pub homeMet : List ℕ → ℕ → Bool
+homeMet after zero = true
+homeMet after (suc p) = yes after p
+
+-- no condition, or a true one
+unfoldable pub conditionMet : List ℕ → List ℕ → List ℕ → ℕ → ℕ → Bool
+conditionMet words values after from to = eqb from to || eqb (verdictOf values after (take (to - from) (drop from words))) 2
+
+-- a test is met, but for its before test
+unfoldable pub testMet : List ℕ → Moment → List ℕ → Test → Bool
+testMet words m after t = triggerMet (m .event) (m .before) after (t .trigger) && homeMet after (t .home) && conditionMet words (m .values) after (t .from) (t .to)

@@ -1,0 +1,31 @@
+/* What the two sides of the bridge send each other, stub.c to server.c and back. Both are little-endian with 64 bits.
+ *
+ * Request: this struct; sheet, card and event; then `out` and `reply` with what they hold before the call.
+ * Answer: what the function returned, as 8 bytes; then `out` and `reply` with what they hold behind the call. */
+#ifndef REQUEST_H
+#define REQUEST_H
+
+#include <stddef.h>
+#include <stdint.h>
+
+enum function { STEP, OUTLOOK, DESK };
+
+/* Lengths are counted as in reambodkin.h. The desk has its input for a sheet, and no card, event and reply. */
+struct request {
+    uint64_t function;
+    uint64_t sheet_len;
+    uint64_t card_len;
+    uint64_t event_len;
+    uint64_t out_len;
+    uint64_t reply_len;
+};
+
+static inline size_t out_bytes(const struct request *request) {
+    return request->out_len * (request->function == OUTLOOK ? sizeof(uint32_t) : sizeof(uint8_t));
+}
+
+static inline size_t reply_bytes(const struct request *request) {
+    return request->reply_len * sizeof(uint64_t);
+}
+
+#endif
