@@ -22,7 +22,6 @@ use Rattle.theory.specs.Readers.{Ensures, give-ensures, choose-ensures, bind-en
 use Rattle.theory.specs.Conditions.{condition-good}
 use Rattle.theory.specs.Sheets.{heads-well}
 use Rattle.verdict.specs.Fits.{Fits}
-use Rattle.verdict.specs.Flat.{words}
 use Rattle.verdict.proofs.Readable.{condition-fits}
 use Rattle.condition.proofs.Callers.{words-leaves}
 use Rattle.rule.specs.Answers.{wordsOf}

@@ -33,7 +33,7 @@ use Rattle.tests.specs.Answers.{rowsOf, Stands, Standing}
 use Rattle.tests.proofs.Callers.{standing-for, rows-stand, tests-taken}
 use Rattle.order.specs.declared.Sorting.{Sorting}
 use Rattle.order.specs.Answers.{asSorting}
-use Rattle.order.proofs.Callers.{sort-none, sort-some, sort-below}
+use Rattle.order.proofs.Callers.{sort-none, sort-some}
 use Rattle.graph.specs.Edges.{triggerNodes, wordNodes, homeNodes, testNodes, testsInto}
 
 -- THE WORDS OF A CONDITION NAME THE STATUSES OF ITS LEAVES

@@ -5,7 +5,7 @@ use mathlib.Core.Bool.{Bool}
 use mathlib.Core.List.{List}
 use native.Mathlib.Omega.{arith}
 use lib.ListN.{length, drop}
-use Rattle.meaning.specs.Reading.{got, wrong}
+use Rattle.meaning.specs.Reading.{got}
 use Rattle.meaning.specs.Name.{Name}
 use Rattle.meaning.specs.Condition.{Leaf}
 use Rattle.meaning.specs.ReadCondition.{readLeaf}

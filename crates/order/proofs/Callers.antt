@@ -9,29 +9,24 @@ use native.Mathlib.Omega.{arith}
 use native.Mathlib.Decide.{ℕ-discrete}
 use lib.Dec.{eqb, ltb}
 use lib.ListN.{length, getD, take, set, replicate}
-use lib.Seq.{take-at, getD-set-same, getD-set-other, getD-take}
+use lib.Seq.{take-at, getD-set-same, getD-set-other}
 use lib.Bits.{bitOr}
 use borrow.Author.Tests.{eq-eqb, ne-eqb, lt-ltb}
 use Rattle.meaning.specs.Text.{In, any, isIn, from}
 use Rattle.meaning.specs.Graph.{Into, edge, waits, firstFree, without, then, first, orderOf, orderFor}
 use Rattle.theory.specs.Lists.{in-any, any-same, is-in, in-is, common, without-in, from-in}
-use Rattle.theory.specs.Orders.{testing}
 use Rattle.order.specs.declared.Sorting.{Sorting}
 use Rattle.order.specs.Masks.{has, members, maskInto, withBit}
 use Rattle.order.specs.Answers.{asSorting}
 use Rattle.order.proofs.Bits as Bits
-use Rattle.order.proofs.Bits.{shifted}
 use Rattle.order.proofs.Members.{same-test, member-has, has-member}
 use Rattle.order.proofs.Laws as Laws
 
 -- MASKS
 
--- no node, one node more, and the same as the code writes it
+-- no node, and one node more as the code writes it
 pub has-none : (k : ℕ) → has 0 k ≡ false
 has-none = Bits.has-none
-
-pub has-or : (m k j : ℕ) → has (bitOr m (2 ^ k)) j ≡ has m j || eqb j k
-has-or = Bits.has-or
 
 pub has-with : (m k j : ℕ) → has (withBit m k) j ≡ has m j || (eqb j k && ltb k 64)
 has-with = Laws.with-has
@@ -133,10 +128,3 @@ module _ (n : ℕ) (into : Into) (r : Sorting) (is : r ≡ asSorting (orderFor n
       go : (x : Option (List ℕ)) → Long n x → asSorting x .found ≡ true → x ≡ some (take n (asSorting x .order))
       go none h t = absurd (false≢true t)
       go (some o) h t = ap some (sym (take-at o (replicate (64 - length o) 0) n h))
-
-  pub sort-below : r .found ≡ true → (i : ℕ) → i < n → getD (r .order) i 0 < n
-  unfolding orderFor
-  sort-below t i h =
-      let l : length (take n (r .order)) ≡ n = subst (Long n) (sort-some t) (order-long into n (from 0 n)) in
-      let b : getD (take n (r .order)) i 0 < n = testing n into (take n (r .order)) (sort-some t) .only i (omega arith) in
-      rw (← getD-take n (r .order) i 0 h) b

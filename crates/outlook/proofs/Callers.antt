@@ -11,11 +11,9 @@ use Rattle.meaning.specs.Text.{In, from}
 use Rattle.meaning.specs.Refusal.{Answer, taken, refused, onTaken, ROOM, MANY}
 use Rattle.meaning.specs.Limits.{partLimit}
 use Rattle.meaning.specs.Number.{Value, missing, number-at, Entry, limit}
-use Rattle.meaning.specs.Sheet as M
 use Rattle.meaning.specs.Sheet.{statuses}
 use Rattle.meaning.specs.Tests.{Test, nodes, tests}
 use Rattle.meaning.specs.Card.{Put}
-use Rattle.meaning.specs.Step as Step
 use Rattle.meaning.specs.Step.{moment, putIn, someHolds, leadsTo, pattern}
 use Rattle.meaning.specs.Outlook.{filledWith, cuts, many, tried, choices, ascending, patterns}
 use Rattle.meaning.specs.Doors.{Case, readCase, outlook, fitting, replied, written}

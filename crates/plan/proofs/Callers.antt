@@ -13,11 +13,8 @@ use Rattle.meaning.specs.Text.{In, keep, joined}
 use Rattle.theory.specs.Lists.{Once}
 use Rattle.tables.specs.Heads.{padded}
 use Rattle.tests.specs.declared.Test.{Test}
-use Rattle.tests.specs.declared.Tests.{Tests}
-use Rattle.tests.specs.Table.{noTest, rowsFor, asTests}
-use Rattle.tests.proofs.Callers.{tests-taken}
-use Rattle.plan.specs.declared.Plan.{Plan}
-use Rattle.plan.specs.Plan.{listedBy, endsFrom, asPlan, planFor}
+use Rattle.tests.specs.Table.{noTest, rowsFor}
+use Rattle.plan.specs.Plan.{listedBy, endsFrom, asPlan}
 use Rattle.plan.proofs.Laws.{rows-hit, rows-miss, ends-length}
 
 -- NO TEST TWICE

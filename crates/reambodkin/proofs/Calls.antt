@@ -15,7 +15,7 @@ use Rattle.meaning.specs.ReadSheet.{sheet}
 use Rattle.meaning.specs.Step.{pattern}
 use Rattle.meaning.specs.Tests.{tests}
 use Rattle.meaning.specs.Outlook.{IsOutlook}
-use Rattle.meaning.specs.Doors.{Case, readCase, Next, next, outlook, stepAnswer, outlookAnswer, stepReply, stepSpace, outlookReply, outlookSpace}
+use Rattle.meaning.specs.Doors.{Case, readCase, Next, next, stepAnswer, outlookAnswer, stepReply, stepSpace, outlookReply, outlookSpace}
 use Rattle.theory.specs.Numbers.{step-tells, outlook-tells}
 use Rattle.theory.specs.Cases.{at, after, Known}
 use Rattle.theory.specs.Requests.{step-of, outlook-of}

@@ -5,7 +5,6 @@ use mathlib.Core.List.{List}
 use lib.ListN.{length}
 use Rattle.meaning.specs.Refusal.{taken}
 use Rattle.meaning.specs.Sheet as M
-use Rattle.meaning.specs.Doors as D
 use Rattle.meaning.specs.Doors.{readSheet, readTold, Case, readCase, stepAnswer, outlookAnswer, replied, written, stepReply, stepSpace, outlookReply, outlookSpace}
 use Rattle.theory.specs.Papers.{caseOf, case-joined, case-short}
 use Rattle.reply.specs.declared.Reply.{Reply}
@@ -21,7 +20,7 @@ use Rattle.moment.specs.Tables.{momentOf}
 use Rattle.write.specs.Answers.{spaceWith}
 use Rattle.accepted.specs.declared.Accepted.{Accepted}
 use Rattle.accepted.specs.Answers.{takenSheet, asAccepted}
-use Rattle.accepted.proofs.Callers.{Taken, accept-read, accept-wrong, accept-sized, accept-heads}
+use Rattle.accepted.proofs.Callers.{accept-read, accept-wrong, accept-sized, accept-heads}
 use Rattle.case.specs.declared.Told.{Told}
 use Rattle.case.specs.Answers.{asTold}
 use Rattle.case.proofs.Callers.{told-read, told-wrong}

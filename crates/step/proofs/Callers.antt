@@ -20,7 +20,6 @@ use Rattle.theory.specs.Lists.{Once, at-place, in-cases, map-set}
 use Rattle.theory.specs.Orders.{Sorted, sorted-from, order-only}
 use Rattle.theory.specs.Formed.{Well}
 use Rattle.theory.specs.Rules.{test-of}
-use Rattle.number.specs.Answers.{coded}
 use Rattle.tables.specs.Heads.{padded}
 use Rattle.tables.proofs.Padded.{padded-store, padded-take}
 use Rattle.verdict.specs.Fits.{Fits}
@@ -29,7 +28,6 @@ use Rattle.tests.specs.declared.Test.{Test}
 use Rattle.tests.specs.Table.{rowsFor}
 use Rattle.tests.specs.Answers.{rowsOf, Standing}
 use Rattle.tests.proofs.Callers.{standing-count, standing-for, rows-stand, tests-few}
-use Rattle.plan.specs.declared.Plan.{Plan}
 use Rattle.plan.specs.Plan.{listedBy, asPlan, planFor}
 use Rattle.plan.proofs.Callers.{listed-few, listed-suc, plan-end, plan-rows}
 use Rattle.test.specs.declared.Moment.{Moment}

@@ -7,7 +7,7 @@ use mathlib.Core.Option.{Option, none, some}
 use native.Mathlib.Omega.{arith}
 use lib.ListN.{length, getD}
 use Rattle.meaning.specs.Text.{text, same, find, later, joined}
-use Rattle.meaning.specs.Refusal.{taken, LINE}
+use Rattle.meaning.specs.Refusal.{LINE}
 use Rattle.meaning.specs.Limits.{eventBytes}
 use Rattle.meaning.specs.Reading.{each, lineEnd, paperEnd}
 use Rattle.meaning.specs.Name.{Name, known, placed}

@@ -11,7 +11,7 @@ use borrow.Author.Tests.{eq-eqb, ne-eqb, eqb-true, eqb-false}
 use lib.Dec.{eqb}
 use lib.ListN.{length, take, drop, getD, set, replicate, length-append, length-map, length-set, List·getD-append, List·getD-map}
 use lib.Seq.{take-append-seam, take-at, drop-at, drop-drop, getD-set-same, getD-set-other}
-use Rattle.meaning.specs.Text.{text, from, In}
+use Rattle.meaning.specs.Text.{from, In}
 use Rattle.meaning.specs.Refusal.{taken}
 use Rattle.meaning.specs.Name.{Name}
 use Rattle.meaning.specs.Number.{Entry}
@@ -19,7 +19,7 @@ use Rattle.meaning.specs.Sheet.{Heads, statuses, eventNames}
 use Rattle.meaning.specs.Card as M
 use Rattle.meaning.specs.Card.{Put, readCard, readEvent}
 use Rattle.meaning.specs.Step.{putIn}
-use Rattle.meaning.specs.Write.{line, lines, mark, cardText}
+use Rattle.meaning.specs.Write.{line, lines, cardText}
 use Rattle.theory.specs.Lists.{Once, from-length}
 use Rattle.theory.specs.Formed.{WellHeads}
 use Rattle.theory.specs.Cards.{CardIn}

@@ -8,7 +8,6 @@ use borrow.Author.Tests.{le-leb, lt-leb}
 use lib.ListN.{length, drop, take, getD, length-append, length-take, length-drop, length-map}
 use Rattle.meaning.specs.Text.{text, from}
 use Rattle.meaning.specs.Number.{Entry, decimal}
-use Rattle.meaning.specs.Sheet as M
 use Rattle.meaning.specs.Sheet.{Status, statuses, statusNames}
 use Rattle.meaning.specs.Write.{line, lines, mark, cardText}
 use Rattle.theory.specs.Lists.{from-length}
