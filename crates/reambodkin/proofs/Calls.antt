@@ -23,13 +23,31 @@ use Rattle.theory.specs.Demands.{outlook-right, outlook-alone}
 use Rattle.reply.specs.declared.Reply.{Reply}
 use Rattle.reambodkin.proofs.step.Reads as Step
 use Rattle.reambodkin.proofs.step.Kinds as StepKinds
+use Rattle.reambodkin.proofs.step.Statement as StepCode
+use Rattle.reambodkin.proofs.step.Met as StepMet
 use Rattle.reambodkin.proofs.outlook.Reads as Outlook
 use Rattle.reambodkin.proofs.outlook.Kinds as OutlookKinds
+use Rattle.reambodkin.proofs.outlook.Statement as OutlookCode
+use Rattle.reambodkin.proofs.outlook.Met as OutlookMet
 use Rattle.reambodkin.proofs.Script.{Returned, Given, refused-back, taken-back}
 
 -- "A sheet otherwise in order": its lines are, whatever its graph is
 abbrev pub InOrder : List ℕ → Sheet → Type 0
 InOrder s sh = paper 1 sheetBytes sheet s ≡ taken sh
+
+-- what the check says of a function: run with any arguments, where it has no `requires`, its code ends, and what it returns and leaves is as its `ensures` say
+abbrev pub StepKeeps : Type 1 → Type 2
+StepKeeps M = StepCode.statement M
+
+abbrev pub OutlookKeeps : Type 1 → Type 2
+OutlookKeeps M = OutlookCode.statement M
+
+-- and it is so; with the contract of a function that a door calls emptied, these fall
+pub step-keeps : {M : Type 1} → StepKeeps M
+step-keeps = StepMet.met
+
+pub outlook-keeps : {M : Type 1} → OutlookKeeps M
+outlook-keeps = OutlookMet.met
 
 -- a call of `step` on the papers s, c, e and the space `lent`, with the reply r and the space left as `out`
 pub record Stepped (s c e lent : List ℕ) (r : Reply) (out : List ℕ) : Type 0 where

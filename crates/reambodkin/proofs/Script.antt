@@ -5,6 +5,7 @@ use mathlib.Core.List.{List, _++_}
 use mathlib.Core.Logic.{_↔_}
 use native.Mathlib.Omega.{arith}
 use lib.ListN.{length, take, drop}
+use lib.Dec.{T, leb, leb→le}
 use lib.Seq.{take-at, drop-at}
 use Rattle.meaning.specs.Refusal.{Answer, taken, refused}
 use Rattle.meaning.specs.Doors.{replied, written}
@@ -55,11 +56,11 @@ module _ {A : Type 0} {out : A → List ℕ} {tasks : A → ℕ} {x : Answer A} 
   list-given a q = (taken-number a q, given-back a q .front)
 
   -- a refusal is told exactly when it is the answer
-  pub told-exactly : (n p l : ℕ) → 1 ≤ n → (r ≡ refusedReply n p l) ↔ (x ≡ refused n p l)
-  told-exactly n p l h = (λ e. go x refl e, λ q. told-back n p l q .0)
+  pub told-exactly : (n p l : ℕ) → T (leb 1 n) → (r ≡ refusedReply n p l) ↔ (x ≡ refused n p l)
+  told-exactly n p l some = (λ e. go x refl e, λ q. told-back n p l q .0)
     where
       go : (y : Answer A) → x ≡ y → r ≡ refusedReply n p l → x ≡ refused n p l
-      go (taken a) q e = absurd (let z : 0 ≡ n = sym (given-back a q .number .0) ∙ ap (λ (r : Reply). r .number) e in omega arith)
+      go (taken a) q e = absurd (let z : 0 ≡ n = sym (given-back a q .number .0) ∙ ap (λ (r : Reply). r .number) e in let h : 1 ≤ n = leb→le 1 n some in omega arith)
       go (refused m o k) q e = q ∙ ap (λ (r : Reply). refused (r .number) (r .paper) (r .line)) (sym (told-back m o k q .0) ∙ e)
 
   -- with numbers from 1 on, a reply is that of a refusal or of a result by its number
