@@ -61,10 +61,14 @@ ruleTests hd l (r ∷ rs) = testOf hd l r ∷ ruleTests hd (suc l) rs
 unfoldable pub ruleLine : Heads → ℕ
 ruleLine hd = 2 + length (hd .fields) + length (hd .events) + length (statuses hd)
 
--- "a stage that was yes closes when its parent goes from yes to no": the trigger is `-parent`
+-- "a stage that was yes closes when its parent goes from yes to no": of stage x and its parent p, the trigger is `-p`
+abbrev pub closes : ℕ → ℕ → Test
+closes x p = record { node = down x; needs = none; trigger = fall p; home = none; condition = none; line = 0 }
+
+-- of a stage with a parent, if any
 abbrev pub closing : ℕ → Option ℕ → List Test
 closing x none = []
-closing x (some p) = record { node = down x; needs = none; trigger = fall p; home = none; condition = none; line = 0 } ∷ []
+closing x (some p) = closes x p ∷ []
 
 -- "One rule is implied", for each of the stages from place x on
 unfoldable pub implied : ℕ → List Status → List Test

@@ -18,7 +18,7 @@ use Rattle.tables.specs.Heads.{padded}
 use Rattle.tests.specs.declared.Test.{Test}
 use Rattle.tests.specs.declared.Tests.{Tests}
 use Rattle.tests.specs.Table.{noTest, rowsFor}
-use Rattle.tests.proofs.Laws.{take-low, laid}
+use Rattle.tables.proofs.Padded.{take-low, laid}
 use Rattle.plan.specs.Plan.{listedBy, endsFrom, asPlan}
 use Rattle.plan.specs.Listed.{Listed, noneListed, addIf, addAll}
 

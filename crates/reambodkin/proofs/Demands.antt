@@ -4,7 +4,7 @@ use mathlib.Core.Path.{_≡_}
 use mathlib.Core.Bool.{Bool, true}
 use mathlib.Core.List.{List, [], _∷_}
 use mathlib.Core.Option.{some}
-use mathlib.Core.Logic.{_↔_}
+use mathlib.Core.Logic.{_↔_, Iff·trans}
 use lib.ListN.{length, getD, take, drop}
 use Rattle.meaning.specs.Text.{In}
 use Rattle.meaning.specs.Kleene.{true₃, known₃}
@@ -25,7 +25,7 @@ use Rattle.theory.specs.Requests as Requests
 use Rattle.theory.specs.Demands as Theory
 use Rattle.reply.specs.declared.Reply.{Reply}
 use Rattle.reply.specs.Answers.{refusedReply}
-use Rattle.reambodkin.proofs.Script.{both, told-exactly, taken-number, list-given}
+use Rattle.reambodkin.proofs.Script.{told-exactly, taken-number, list-given}
 use Rattle.reambodkin.proofs.Calls.{InOrder, StepKeeps, OutlookKeeps, step-keeps, outlook-keeps, Stepped, Looked, stepped, looked, step-refused, outlook-refused, step-took, outlook-took}
 
 -- DEMAND 1. "It takes any sheet, card and event line and comes to an end": for whatever arguments, the code of `step` and that of `outlook` end, and keep what they declare.
@@ -69,11 +69,11 @@ module _ {s c e lent : List ℕ} {r : Reply} {out : List ℕ} (done : Stepped s 
 
   -- papers that are taken give a step, and ROOM exactly when the next card is longer than the space
   pub step-room : (k : Case) → readCase s c e ≡ taken k → (length (next k .card) ≤ length lent → r .number ≡ 0) × ((r ≡ refusedReply ROOM 0 0) ↔ (length lent < length (next k .card)))
-  step-room k q = (λ h. taken-number (stepped done) (next k) (Requests.step-taken s c e (length lent) k q h), both (told-exactly (stepped done) ROOM 0 0 tt) (Requests.step-fits s c e (length lent) k q))
+  step-room k q = (λ h. taken-number (stepped done) (next k) (Requests.step-taken s c e (length lent) k q h), Iff·trans (told-exactly (stepped done) ROOM 0 0 tt) (Requests.step-fits s c e (length lent) k q))
 
   -- "A sheet otherwise in order is refused for circular dependence exactly when its dependency graph has a cycle."
   pub step-cycle : (sh : Sheet) → InOrder s sh → (r ≡ refusedReply CYCLE 1 0) ↔ Cycle (predecessors (tests sh))
-  step-cycle sh q = both (told-exactly (stepped done) CYCLE 1 0 tt) (Requests.step-circle s c e (length lent) sh q)
+  step-cycle sh q = Iff·trans (told-exactly (stepped done) CYCLE 1 0 tt) (Requests.step-circle s c e (length lent) sh q)
 
   pub step-right : r .number ≡ 0 → Right s c e lent r out
   step-right z = let (k, q, g) = step-took done z in
@@ -92,16 +92,16 @@ module _ {s c e lent : List ℕ} {r : Reply} {out : List ℕ} (done : Looked s c
   outlook-refuses z = let (t, f, n, k, u) = outlook-refused done z in record { as-told = t; fixed = f; others = (n, k); untouched = u }
 
   pub outlook-cycle : (sh : Sheet) → InOrder s sh → (r ≡ refusedReply CYCLE 1 0) ↔ Cycle (predecessors (tests sh))
-  outlook-cycle sh q = both (told-exactly (looked done) CYCLE 1 0 tt) (Requests.outlook-circle s c e (length lent) sh q)
+  outlook-cycle sh q = Iff·trans (told-exactly (looked done) CYCLE 1 0 tt) (Requests.outlook-circle s c e (length lent) sh q)
 
   -- "MANY is given exactly when the product of the parts over the `?` fields exceeds 4,096"
   pub outlook-many : (k : Case) → readCase s c e ≡ taken k → (r ≡ refusedReply MANY 0 0) ↔ (partLimit < parts (tests (k .sheet)) 0 (at k .values))
-  outlook-many k q = both (told-exactly (looked done) MANY 0 0 tt) (Requests.outlook-many s c e (length lent) k q)
+  outlook-many k q = Iff·trans (told-exactly (looked done) MANY 0 0 tt) (Requests.outlook-many s c e (length lent) k q)
 
   -- "Where the missing answers split into at most 4,096 combinations and the list has room", it is given; ROOM exactly when it has none
   pub outlook-given : (k : Case) (list : List ℕ) → readCase s c e ≡ taken k → parts (tests (k .sheet)) 0 (at k .values) ≤ partLimit → IsOutlook (tests (k .sheet)) (at k) list
       → (length list ≤ length lent → (r .number ≡ 0) × (take (r .count) out ≡ list)) × ((r ≡ refusedReply ROOM 0 0) ↔ (length lent < length list))
-  outlook-given k list q few is = (λ h. list-given (looked done) list (Requests.outlook-taken s c e (length lent) k list q few is h), both (told-exactly (looked done) ROOM 0 0 tt) (Requests.outlook-fits s c e (length lent) k list q few is))
+  outlook-given k list q few is = (λ h. list-given (looked done) list (Requests.outlook-taken s c e (length lent) k list q few is h), Iff·trans (told-exactly (looked done) ROOM 0 0 tt) (Requests.outlook-fits s c e (length lent) k list q few is))
 
   pub outlook-right : r .number ≡ 0 → Listed s c e lent r out
   outlook-right z = let (k, q, g, t, v) = outlook-took done z in

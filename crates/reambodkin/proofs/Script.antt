@@ -78,7 +78,3 @@ module _ {A : Type 0} {out : A → List ℕ} {tasks : A → ℕ} {x : Answer A} 
         go : (y : Answer A) → x ≡ y → (a : A) × (x ≡ taken a) × Given out tasks lent r now a
         go (taken a) q = (a, q, given-back a q)
         go (refused n p l) q = absurd (let e : r .number ≡ n = ap (λ (r : Reply). r .number) (told-back n p l q .0) in omega (arith, tells .told n p l q .0))
-
--- one direction after the other
-pub both : {P Q R : Type 0} → P ↔ Q → Q ↔ R → P ↔ R
-both (f, g) (h, k) = (λ x. h (f x), λ x. g (k x))

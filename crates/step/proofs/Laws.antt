@@ -13,7 +13,7 @@ use borrow.Author.Tests.{eq-eqb, ne-eqb, not-true, not-false}
 use Rattle.meaning.specs.Text.{any}
 use Rattle.meaning.specs.Step.{rising}
 use Rattle.tests.specs.declared.Test.{Test}
-use Rattle.tests.proofs.Laws.{take-low}
+use Rattle.tables.proofs.Padded.{take-low}
 use Rattle.plan.specs.declared.Plan.{Plan}
 use Rattle.test.specs.declared.Moment.{Moment}
 use Rattle.test.specs.Met as met

@@ -1,13 +1,23 @@
 -- Arrays that begin with a list: what a store behind the list makes of them, and how its parts are found again.
-use Prim.Native.Nat.{ℕ, zero, suc, _+_, _-_, _<_, _≤_}
+use Prim.Native.Nat.{ℕ, zero, suc, _+_, _-_, _<_, _≤_, min}
 use mathlib.Core.Path.{_≡_, refl, sym, _∙_, ap}
-use mathlib.Core.List.{List, [], _∷_, _++_, map, append-assoc, map-append}
+use mathlib.Core.List.{List, [], _∷_, _++_, map, append-nil, append-assoc, map-append}
 use native.Mathlib.Omega.{arith}
+use native.Mathlib.Nat.{sub-zero}
+use native.Mathlib.Decide.{decLe}
 use lib.ListN.{length, take, drop, getD, set, replicate, length-set, length-append, length-replicate, length-map, replicate-append-replicate}
-use lib.Seq.{set-append-left, take-append-seam, drop-append-seam, set-append-seam, append-snoc}
+use lib.Seq.{sets, take-all, set-append-left, take-append-seam, drop-append-seam, set-append-seam, append-snoc}
 use Rattle.meaning.specs.Name.{Name}
 use Rattle.text.specs.Packed.{packed, named}
 use Rattle.tables.specs.Heads.{padded, Again}
+
+-- what is asked for behind the last is not there
+pub take-low : {A : Type 0} (n c : ℕ) (all : List A) → length all ≡ n → take (min c n) all ≡ take c all
+take-low n c all e = go (decLe c n)
+  where
+    go : Dec (c ≤ n) → take (min c n) all ≡ take c all
+    go (yes h) = let z : min c n ≡ c = omega arith in ap (λ n. take n all) z
+    go (no h) = take-all (min c n) all (omega arith) ∙ sym (take-all c all (omega arith))
 
 -- what stands behind a list reads as if nothing stood there
 pub behind-at : {A : Type 0} (d : A) (m : ℕ) (xs : List A) (i : ℕ) → getD (xs ++ replicate m d) i d ≡ getD xs i d
@@ -58,6 +68,21 @@ module _ {A : Type 0} (n : ℕ) (d : A) where
   pub padded-part : (a b c : List A) → take (length b) (drop (length a) (padded n d (a ++ b ++ c))) ≡ b
   unfolding padded
   padded-part a b c = rw (append-assoc (a ++ b) c, append-assoc a b, drop-append-seam) (take-append-seam b _)
+
+-- a list laid behind another
+pub padded-sets : {A : Type 0} (n : ℕ) (d : A) (ys xs : List A) → length xs + length ys ≤ n → sets (padded n d xs) (length xs) ys ≡ padded n d (xs ++ ys)
+padded-sets n d [] xs h = ap (padded n d) (sym (append-nil xs))
+padded-sets n d (y ∷ ys) xs h =
+    let one : length (xs ++ (y ∷ [])) ≡ suc (length xs) = length-append xs (y ∷ []) ∙ omega arith in
+    ap (λ l. sets l (suc (length xs)) ys) (padded-set n d xs y (omega arith))
+    ∙ ap (λ k. sets (padded n d (xs ++ (y ∷ []))) k ys) (sym one)
+    ∙ padded-sets n d ys (xs ++ (y ∷ [])) (omega arith)
+    ∙ ap (padded n d) (append-snoc xs y ys)
+
+-- a list laid over the start of an array of one value
+pub laid : {A : Type 0} (n : ℕ) (d : A) (ys : List A) → length ys ≤ n → sets (replicate n d) 0 ys ≡ padded n d ys
+unfolding padded
+laid n d ys h = ap (λ m. sets (replicate m d) 0 ys) (sym (sub-zero n)) ∙ padded-sets n d ys [] (omega arith)
 
 -- the numbers of a list's members: one more
 pub mapped-set : {A : Type 0} (n : ℕ) (f : A → ℕ) (xs : List A) (a : A) → length xs < n → set (padded n 0 (map f xs)) (length xs) (f a) ≡ padded n 0 (map f (xs ++ (a ∷ [])))

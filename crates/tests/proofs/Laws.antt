@@ -2,17 +2,16 @@
 use Prim.Native.Nat.{ℕ, zero, suc, _+_, _-_, _*_, _≤_, _<_, min}
 use mathlib.Core.Path.{_≡_, refl, sym, ap, ap₂, _∙_}
 use mathlib.Core.Bool.{true, false}
-use mathlib.Core.List.{List, [], _∷_, _++_, map, append-nil}
+use mathlib.Core.List.{List, [], _∷_, _++_, map}
 use native.Mathlib.Omega.{arith}
-use native.Mathlib.Nat.{add-zero, sub-zero}
+use native.Mathlib.Nat.{add-zero}
 use native.Mathlib.Numerals.{add-one}
-use native.Mathlib.Decide.{decLe}
 use mir.Val.{Fits}
 use mir.Syntax.{w16, w64}
 use lib.ListN.{length, length-map, length-take, length-append, drop-of-length-le, getD, take, drop, set, replicate}
-use lib.Seq.{sets, take-all, drop-cons, getD-take, append-snoc}
+use lib.Seq.{sets, drop-cons, getD-take}
 use Rattle.tables.specs.Heads.{padded}
-use Rattle.tables.proofs.Padded.{padded-set}
+use Rattle.tables.proofs.Padded.{take-low, padded-sets, laid}
 use Rattle.rule.specs.declared.Rule.{Rule}
 use Rattle.rule.specs.Answers.{noRule}
 use Rattle.rules.specs.declared.Rules.{Rules}
@@ -27,29 +26,6 @@ getD-any : {A : Type 0} (xs : List A) (i : ℕ) (d e : A) → i < length xs → 
 getD-any [] i d e h = absurd (omega arith)
 getD-any (x ∷ xs) zero d e h = refl
 getD-any (x ∷ xs) (suc i) d e h = getD-any xs i d e (omega arith)
-
--- rows behind the last are not asked for
-pub take-low : {A : Type 0} (n c : ℕ) (all : List A) → length all ≡ n → take (min c n) all ≡ take c all
-take-low n c all e = go (decLe c n)
-  where
-    go : Dec (c ≤ n) → take (min c n) all ≡ take c all
-    go (yes h) = let z : min c n ≡ c = omega arith in ap (λ n. take n all) z
-    go (no h) = take-all (min c n) all (omega arith) ∙ sym (take-all c all (omega arith))
-
--- a list laid behind another
-padded-sets : {A : Type 0} (n : ℕ) (d : A) (ys xs : List A) → length xs + length ys ≤ n → sets (padded n d xs) (length xs) ys ≡ padded n d (xs ++ ys)
-padded-sets n d [] xs h = ap (padded n d) (sym (append-nil xs))
-padded-sets n d (y ∷ ys) xs h =
-    let one : length (xs ++ (y ∷ [])) ≡ suc (length xs) = length-append xs (y ∷ []) ∙ omega arith in
-    ap (λ l. sets l (suc (length xs)) ys) (padded-set n d xs y (omega arith))
-    ∙ ap (λ k. sets (padded n d (xs ++ (y ∷ []))) k ys) (sym one)
-    ∙ padded-sets n d ys (xs ++ (y ∷ [])) (omega arith)
-    ∙ ap (padded n d) (append-snoc xs y ys)
-
--- a list laid over the start of an array of one value
-pub laid : {A : Type 0} (n : ℕ) (d : A) (ys : List A) → length ys ≤ n → sets (replicate n d) 0 ys ≡ padded n d ys
-unfolding padded
-laid n d ys h = ap (λ m. sets (replicate m d) 0 ys) (sym (sub-zero n)) ∙ padded-sets n d ys [] (omega arith)
 
 -- ONE TEST
 

@@ -1,12 +1,11 @@
 -- A case that was taken: its step, its next card and its outlook, from what is known of its papers.
-use Prim.Native.Nat.{ℕ, zero, suc, _+_, _*_, _≤_, _<_}
+use Prim.Native.Nat.{ℕ, suc, _*_, _≤_, _<_}
 use mathlib.Core.Path.{_≡_, refl, sym, _∙_, ap}
-use mathlib.Core.Bool.{Bool, true, false, _&&_, true≢false, false≢true}
-use mathlib.Core.List.{List, [], _∷_, map}
+use mathlib.Core.Bool.{Bool, true, false, false≢true}
+use mathlib.Core.List.{List, [], _∷_}
 use mathlib.Core.Option.{Option, none, some}
-use mathlib.Core.Logic.{_↔_, inl, inr}
+use mathlib.Core.Logic.{_↔_}
 use native.Mathlib.Omega.{arith}
-use lib.Dec.{ltb}
 use lib.ListN.{length, getD}
 use borrow.Author.Tests.{lt-ltb, le-ltb, ltb-true}
 use Rattle.meaning.specs.Text.{joined}
@@ -94,11 +93,13 @@ module _ (k : Case) (p : Papers k) where
 
   -- the side meets the rules,
   pub case-meets : Meets (tests (k .sheet)) (at k) (after k)
-  case-meets = leads-meets (tests (k .sheet)) (at k) (k .order) (order-marked (k .order) (p .order))
+  unfolding filledWith
+  case-meets = filled-meets (at k .values)
 
   -- no other does,
   pub case-only : (side : List Bool) → Meets (tests (k .sheet)) (at k) side → side ≡ after k
-  case-only side h = one-side (tests (k .sheet)) (at k) inside-marked (k .order) (order-marked (k .order) (p .order)) side (after k) h case-meets
+  unfolding filledWith
+  case-only side h = filled-only (at k .values) side (after k) h case-meets
 
   -- and every testing order leads to it
   pub case-every : (o : List ℕ) → TestingOrder (nodes (k .sheet .heads)) (predecessors (tests (k .sheet))) o → leadsTo (tests (k .sheet)) (at k) o ≡ after k

@@ -3,7 +3,7 @@ use Prim.Native.Nat.{ℕ, _≤_, _<_}
 use mathlib.Core.Path.{_≡_, refl, sym, _∙_, ap}
 use mathlib.Core.Bool.{Bool, true, false, cond}
 use mathlib.Core.List.{List}
-use mathlib.Core.Logic.{_↔_}
+use mathlib.Core.Logic.{_↔_, Iff·trans}
 use native.Mathlib.Omega.{arith}
 use lib.Dec.{leb}
 use lib.ListN.{length, getD}
@@ -25,10 +25,6 @@ use Rattle.theory.specs.Readers.{refused-taken, taken-same}
 use Rattle.theory.specs.Papers.{on-taken, case-holds}
 use Rattle.theory.specs.Cases.{at, told-exactly, case-list, outlook-told, outlook-few, outlook-same}
 use Rattle.theory.specs.Numbers.{sheet-names, step-own, outlook-own}
-
--- one direction after the other
-both : {P Q R : Type 0} → P ↔ Q → Q ↔ R → P ↔ R
-both (f, g) (h, k) = (λ x. h (f x), λ x. g (k x))
 
 -- ROOM: "next card or list longer than the space lent"
 module _ {A : Type 0} (out : A → List ℕ) (room : ℕ) (a : A) where
@@ -96,7 +92,7 @@ module _ (s c e : List ℕ) (room : ℕ) where
   -- "A sheet otherwise in order is refused for circular dependence exactly when its dependency graph has a cycle."
   pub step-circle : (sh : Sheet) → paper 1 sheetBytes sheet s ≡ taken sh → (stepAnswer s c e room ≡ refused CYCLE 1 0) ↔ Cycle (predecessors (tests sh))
   unfolding stepAnswer
-  step-circle sh q = both (sheet-names (λ k. fitting (λ n. n .card) room (next k)) (step-own room) s c e CYCLE 0) (told-exactly s sh q)
+  step-circle sh q = Iff·trans (sheet-names (λ k. fitting (λ n. n .card) room (next k)) (step-own room) s c e CYCLE 0) (told-exactly s sh q)
 
   -- THE OUTLOOK
 
@@ -134,7 +130,7 @@ module _ (s c e : List ℕ) (room : ℕ) where
 
   pub outlook-circle : (sh : Sheet) → paper 1 sheetBytes sheet s ≡ taken sh → (outlookAnswer s c e room ≡ refused CYCLE 1 0) ↔ Cycle (predecessors (tests sh))
   unfolding outlookAnswer
-  outlook-circle sh q = both (sheet-names (λ k. onTaken (outlook k) (λ l. fitting (λ l. l) room l)) (outlook-own room) s c e CYCLE 0) (told-exactly s sh q)
+  outlook-circle sh q = Iff·trans (sheet-names (λ k. onTaken (outlook k) (λ l. fitting (λ l. l) room l)) (outlook-own room) s c e CYCLE 0) (told-exactly s sh q)
 
 -- the cuts that `parts` counts are the document's, each once
 pub cuts-right : (ts : List Test) (f : ℕ) → ((v : ℕ) → In v (cuts ts f) ↔ (isCut ts f v ≡ true)) × ((i j : ℕ) → i < j → j < length (cuts ts f) → getD (cuts ts f) i 0 < getD (cuts ts f) j 0)

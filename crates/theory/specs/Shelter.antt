@@ -9,9 +9,9 @@ use lib.Dec.{eqb}
 use lib.ListN.{length, getD}
 use borrow.Author.Tests.{eq-eqb, not-false}
 use Rattle.meaning.specs.Text.{In}
-use Rattle.meaning.specs.Sheet.{Status, fall}
+use Rattle.meaning.specs.Sheet.{Status}
 use Rattle.meaning.specs.Card.{is, shut, orphan}
-use Rattle.meaning.specs.Tests.{up, down, Test}
+use Rattle.meaning.specs.Tests.{up, down, Test, closes}
 use Rattle.meaning.specs.Dependency.{testsFor}
 use Rattle.meaning.specs.Step.{Moment, needed, triggered, fulfilled, housed, holds, someHolds, Meets}
 use Rattle.theory.specs.Lists.{in-keep, in-any, any-in}
@@ -80,10 +80,6 @@ pub none-orphan : (side : List Bool) (ss : List Status) → ((x : ℕ) → x < l
 none-orphan side ss f = from-none side 0 ss (λ y i q h. let z : y ≡ i = omega arith in rw z (f i h))
 
 -- WHAT THE TESTS SAY OF A STAGE AND ITS PARENT
-
--- the implied test of a stage with a parent
-abbrev pub closes : ℕ → ℕ → Test
-closes x p = record { node = down x; needs = none; trigger = fall p; home = none; condition = none; line = 0 }
 
 -- tests that guard the stages: one for `+x` asks for the parent of x, and a stage closes with its parent
 pub record Guards (stages : List Status) (ts : List Test) : Type 0 where

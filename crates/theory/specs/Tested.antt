@@ -5,16 +5,16 @@ use mathlib.Core.List.{List, [], _∷_, _++_, append-nil, append-assoc}
 use mathlib.Core.Option.{Option, none, some}
 use mathlib.Core.Logic.{inl, inr, ⊎-elim}
 use native.Mathlib.Omega.{arith}
-use lib.ListN.{length, getD, length-append}
+use lib.ListN.{length, getD, length-append, List·getD-append}
 use Rattle.meaning.specs.Text.{In, joined}
 use Rattle.meaning.specs.Sheet.{Heads, Sheet, Status, Sign, plus, minus, Rule, statuses, stageOver, leavesOf, leaves}
 use Rattle.meaning.specs.Graph.{Inside}
-use Rattle.meaning.specs.Tests.{up, down, nodes, node, Test, homeOf, testOf, ruleTests, ruleLine, closing, implied, tests, leavesIn}
+use Rattle.meaning.specs.Tests.{up, down, nodes, node, Test, homeOf, testOf, ruleTests, ruleLine, closes, closing, implied, tests, leavesIn}
 use Rattle.meaning.specs.Dependency.{predecessors}
 use Rattle.theory.specs.Lists.{in-cases, in-left, in-right}
 use Rattle.theory.specs.Formed.{Each, UnderIn, StatusIn, RuleIn, Well, under-up}
 use Rattle.theory.specs.Edges.{TestIn, edges-inside}
-use Rattle.theory.specs.Shelter.{nowhere, closes, Guards}
+use Rattle.theory.specs.Shelter.{nowhere, Guards}
 
 -- A TEST IS THAT OF A RULE, OR OF A CHILD STAGE
 
@@ -59,12 +59,6 @@ in-implied x (s ∷ ss) y zero p q h e =
     in-left (closes y p) (closing x (s .under)) (implied (suc x) ss) (rw e (inl (ap (λ w. closes w p) z)))
 in-implied x (s ∷ ss) y (suc i) p q h e =
     in-right (closes y p) (closing x (s .under)) (implied (suc x) ss) (in-implied (suc x) ss y i p (omega arith) (omega arith) e)
-
--- what stands in front
-front-at : (xs ys : List Status) (i : ℕ) → i < length xs → getD (xs ++ ys) i nowhere ≡ getD xs i nowhere
-front-at [] ys i h = absurd (omega arith)
-front-at (x ∷ xs) ys zero h = refl
-front-at (x ∷ xs) ys (suc i) h = front-at xs ys i (omega arith)
 
 module _ (sh : Sheet) (well : Well sh) where
   abbrev hd : Heads
@@ -143,7 +137,7 @@ sheet-guards sh = record { asks = asks; shut = λ x p h u. in-right (closes x p)
     asks : (x p : ℕ) → x < length stages → getD stages x nowhere .under ≡ some p → (t : Test) → In t (rules ++ implied 0 stages) → t .node ≡ up x → t .home ≡ some p
     asks x p h u t i n = ⊎-elim
         (λ j. let (r, k, a, e) = rule-test (sh .heads) (sh .rules) (ruleLine (sh .heads)) t j in
-        ap (λ (w : Test). w .home) e ∙ signed (r .sign) (r .status) x p (sym (ap (λ (w : Test). w .node) e) ∙ n) (ap (λ (s : Status). s .under) (front-at stages (sh .heads .miles) x h) ∙ u))
+        ap (λ (w : Test). w .home) e ∙ signed (r .sign) (r .status) x p (sym (ap (λ (w : Test). w .node) e) ∙ n) (ap (λ (s : Status). s .under) (List·getD-append stages (sh .heads .miles) nowhere x h) ∙ u))
         (λ j. let (y, q, a, b, e) = child-test stages t j in absurd (let z : down y ≡ up x = sym (ap (λ (w : Test). w .node) e) ∙ n in omega arith))
         (in-cases t rules (implied 0 stages) i)
 
