@@ -1,7 +1,7 @@
 -- Laws of the functions: what is read of the marks, and the parts of a test.
 use Prim.Native.Nat.{ℕ, zero, suc, _-_, _≤_}
 use mathlib.Core.Path.{_≡_, refl, sym, ap, _∙_}
-use mathlib.Core.Bool.{Bool, true, false, not, _&&_, and-false}
+use mathlib.Core.Bool.{Bool, true, false, not, and-true, and-false}
 use mathlib.Core.List.{List}
 use native.Mathlib.Omega.{arith}
 use lib.Dec.{eqb}
@@ -33,10 +33,6 @@ module _ (before after : List ℕ) (x : ℕ) (b : Bool) (is : b ≡ met.yes afte
 
   pub rose-is : not b ≡ false → (a : Bool) → a ≡ met.yes before x → not a ≡ roseIn before after x
   rose-is t a e = rw (← is, not-false b t, ← e) (sym (and-true (not a)))
-    where
-      and-true : (c : Bool) → c && true ≡ c
-      and-true true = refl
-      and-true false = refl
 
 module _ (before after : List ℕ) (x : ℕ) (b : Bool) (is : b ≡ met.yes before x) where
   pub fell-not : not b ≡ true → false ≡ fellIn before after x

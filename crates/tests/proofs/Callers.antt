@@ -11,7 +11,7 @@ use lib.Dec.{eqb}
 use lib.ListN.{length, length-append, length-map, getD, take, drop}
 use lib.Seq.{take-at, drop-at, drop-drop}
 use Rattle.meaning.specs.Text.{In, keep, joined}
-use Rattle.meaning.specs.Sheet.{Heads, Sheet, Status, Sign, plus, minus, fall, Rule, statuses, stageOver}
+use Rattle.meaning.specs.Sheet.{Heads, Sheet, Status, Sign, plus, minus, Rule, statuses, stageOver}
 use Rattle.meaning.specs.Tests as M
 use Rattle.meaning.specs.Tests.{up, down, node, homeOf, testOf, ruleTests, ruleLine, closing, implied, tests}
 use Rattle.meaning.specs.Dependency.{testsFor}
@@ -170,7 +170,7 @@ closings-stand ws x (s ∷ ss) = go (s .under) (closings-stand ws (suc x) ss)
     go : (u : Option ℕ) → Standing ws (implied (suc x) ss) (map (testRow 0) (implied (suc x) ss))
         → Standing ws (closing x u ++ implied (suc x) ss) (map (testRow 0) (closing x u ++ implied (suc x) ss))
     go none g = g
-    go (some p) g = (row-stands ws 0 (record { node = down x; needs = none; trigger = fall p; home = none; condition = none; line = 0 }) ws refl refl, g)
+    go (some p) g = (row-stands ws 0 (M.closes x p) ws refl refl, g)
 
 -- the rows of a sheet stand for its tests, with its words at the start of any
 pub rows-stand : (sh : Sheet) (ws rest : List ℕ) → ws ≡ allWords (sh .rules) ++ rest → Standing ws (tests sh) (rowsOf sh)
