@@ -1,4 +1,4 @@
-//! Reambodkin's two requests over the bytes of three papers, as safe functions on slices. `include/reambodkin.h` has
+//! Reambodkin's three requests over the bytes of three papers, as safe functions on slices. `include/reambodkin.h` has
 //! the contract in words.
 
 #![no_std]
@@ -42,6 +42,14 @@ pub fn outlook(sheet: &[u8], card: &[u8], event: &[u8], out: &mut [u32]) -> Repl
     Reply::of(reply)
 }
 
+/// Puts the reasons why each status changed or did not at the start of `out`, ascending, 159 at most; a refusal leaves
+/// `out` untouched. A reason is `(status * 1000 + line) * 10 + kind`.
+pub fn why(sheet: &[u8], card: &[u8], event: &[u8], out: &mut [u32]) -> Reply {
+    let mut reply = [0; 5];
+    why_into(sheet, card, event, out, &mut reply);
+    Reply::of(reply)
+}
+
 /// Hands the papers and the lent space of a request on, each slice as a pointer and its length.
 macro_rules! request {
     ($door:ident, $sheet:ident, $card:ident, $event:ident, $out:ident, $reply:ident) => {
@@ -74,12 +82,32 @@ pub fn outlook_into(sheet: &[u8], card: &[u8], event: &[u8], out: &mut [u32], re
     request!(reambodkin_outlook, sheet, card, event, out, reply)
 }
 
+/// Why, as the library has it, likewise.
+pub fn why_into(sheet: &[u8], card: &[u8], event: &[u8], out: &mut [u32], reply: &mut [u64]) -> u64 {
+    request!(reambodkin_why, sheet, card, event, out, reply)
+}
+
+/// Hands the input and the lent space of a program's output on, likewise.
+#[cfg(feature = "desk")]
+macro_rules! output {
+    ($door:ident, $input:ident, $out:ident) => {
+        // SAFETY: both pointers come from slices of the lengths given with them, and `out` is lent to this call alone.
+        unsafe { library::$door($input.as_ptr(), $input.len(), $out.as_mut_ptr(), $out.len()) }
+    };
+}
+
 /// The length of the desk's output, which stands at the start of `out`; 0, and nothing touched, where `out` has fewer
 /// than 81,920 bytes.
 #[cfg(feature = "desk")]
 pub fn desk(input: &[u8], out: &mut [u8]) -> usize {
-    // SAFETY: both pointers come from slices of the lengths given with them, and `out` is lent to this call alone.
-    unsafe { library::reambodkin_desk(input.as_ptr(), input.len(), out.as_mut_ptr(), out.len()) }
+    output!(reambodkin_desk, input, out)
+}
+
+/// The length of the clerk's output with the word `why`, which stands at the start of `out`; 0 where there is no reason,
+/// and 0, and nothing touched, where `out` has fewer than 49,152 bytes.
+#[cfg(feature = "desk")]
+pub fn clerk_why(input: &[u8], out: &mut [u8]) -> usize {
+    output!(reambodkin_clerk_why, input, out)
 }
 
 mod library {
@@ -108,7 +136,21 @@ mod library {
             reply: *mut u64,
             reply_len: usize,
         ) -> u64;
+        pub fn reambodkin_why(
+            sheet: *const u8,
+            sheet_len: usize,
+            card: *const u8,
+            card_len: usize,
+            event: *const u8,
+            event_len: usize,
+            out: *mut u32,
+            out_len: usize,
+            reply: *mut u64,
+            reply_len: usize,
+        ) -> u64;
         #[cfg(feature = "desk")]
         pub fn reambodkin_desk(input: *const u8, input_len: usize, out: *mut u8, out_len: usize) -> usize;
+        #[cfg(feature = "desk")]
+        pub fn reambodkin_clerk_why(input: *const u8, input_len: usize, out: *mut u8, out_len: usize) -> usize;
     }
 }

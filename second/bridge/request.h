@@ -8,9 +8,10 @@
 #include <stddef.h>
 #include <stdint.h>
 
-enum function { STEP, OUTLOOK, DESK };
+enum function { STEP, OUTLOOK, WHY, DESK, CLERK_WHY };
 
-/* Lengths are counted as in reambodkin.h. The desk has its input for a sheet, and no card, event and reply. */
+/* Lengths are counted as in reambodkin.h. The desk and the clerk have their input for a sheet, and no card, event and
+ * reply. */
 struct request {
     uint64_t function;
     uint64_t sheet_len;
@@ -21,7 +22,8 @@ struct request {
 };
 
 static inline size_t out_bytes(const struct request *request) {
-    return request->out_len * (request->function == OUTLOOK ? sizeof(uint32_t) : sizeof(uint8_t));
+    int is_list = request->function == OUTLOOK || request->function == WHY;
+    return request->out_len * (is_list ? sizeof(uint32_t) : sizeof(uint8_t));
 }
 
 static inline size_t reply_bytes(const struct request *request) {

@@ -90,8 +90,13 @@ static uint64_t call(const struct request *request, const uint8_t *sheet, const 
     case OUTLOOK:
         return reambodkin_outlook(sheet, request->sheet_len, card, request->card_len, event, request->event_len, out,
                                   request->out_len, reply, request->reply_len);
+    case WHY:
+        return reambodkin_why(sheet, request->sheet_len, card, request->card_len, event, request->event_len, out,
+                              request->out_len, reply, request->reply_len);
     case DESK:
         return reambodkin_desk(sheet, request->sheet_len, out, request->out_len);
+    case CLERK_WHY:
+        return reambodkin_clerk_why(sheet, request->sheet_len, out, request->out_len);
     default:
         fail("bridge: a request for no function\n");
         return 0;

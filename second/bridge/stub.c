@@ -101,7 +101,19 @@ uint64_t reambodkin_outlook(const uint8_t *sheet, size_t sheet_len, const uint8_
     return ask(&request, sheet, card, event, out, reply);
 }
 
+uint64_t reambodkin_why(const uint8_t *sheet, size_t sheet_len, const uint8_t *card, size_t card_len,
+                        const uint8_t *event, size_t event_len, uint32_t *out, size_t out_len,
+                        uint64_t *reply, size_t reply_len) {
+    struct request request = {WHY, sheet_len, card_len, event_len, out_len, reply_len};
+    return ask(&request, sheet, card, event, out, reply);
+}
+
 size_t reambodkin_desk(const uint8_t *input, size_t input_len, uint8_t *out, size_t out_len) {
     struct request request = {DESK, input_len, 0, 0, out_len, 0};
+    return ask(&request, input, NULL, NULL, out, NULL);
+}
+
+size_t reambodkin_clerk_why(const uint8_t *input, size_t input_len, uint8_t *out, size_t out_len) {
+    struct request request = {CLERK_WHY, input_len, 0, 0, out_len, 0};
     return ask(&request, input, NULL, NULL, out, NULL);
 }

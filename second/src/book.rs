@@ -1,5 +1,6 @@
 //! The rules by the book: slow, for small sheets. Every after side is tried against the rules as they are written,
-//! paths are searched from each node, and an outlook is made from several fillings of each part.
+//! paths are searched from each node, an outlook is made from several fillings of each part, and each reason that
+//! there could be is asked whether it is to be told.
 
 use std::collections::BTreeSet;
 
@@ -11,12 +12,15 @@ use crate::{
     piece::{LEAST, MOST},
     sheet::{Change, Rule, Sheet, Trigger},
     step::{Case, Run},
+    why::{Kind, Reason, reasons},
 };
 
 /// Statuses up to which all after sides are tried.
 pub const FEW_STATUSES: usize = 8;
 /// Combinations up to which the fillings are tried.
 pub const FEW_COMBINATIONS: usize = 32;
+/// Rule lines and child stages together.
+pub const MOST_REASONS: usize = 128 + 31;
 
 /// Compares the order and cycle test of an accepted or cyclic sheet with a path search.
 pub fn check_graph(sheet: &Sheet) -> Result<(), String> {
@@ -96,6 +100,69 @@ fn check_outlook(case: &Case, random: &mut Random) -> Result<(), String> {
     if found == list { Ok(()) } else { Err(format!("the outlook gives {list:?}, the rules {found:?}")) }
 }
 
+/// Compares the reasons of a case of any size with those that are to be told.
+pub fn check_why(case: &Case) -> Result<(), String> {
+    let given = reasons(case);
+    let numbers = case.numbers();
+    let after = Run::new(case).statuses(&numbers);
+    let count = case.sheet.names.statuses.len();
+    let mut due: Vec<Reason> = (0..count).flat_map(|status| thinkable(&case.sheet, status)).collect();
+    due.retain(|reason| is_told(case, *reason, after, &numbers));
+    if given != due {
+        return Err(format!("the reasons are {given:?}, by the book {due:?}"));
+    }
+    let of = |status: usize| given.iter().filter(|reason| reason.status == status).count();
+    if let Some(status) = (0..count).find(|&status| yes(case.before ^ after, status) && of(status) != 1) {
+        return Err(format!("status {status} changed and has {} reasons", of(status)));
+    }
+    let told: Vec<u32> = given.iter().map(|reason| reason.number()).collect();
+    if told.is_sorted_by(|one, next| one < next) && told.len() <= MOST_REASONS {
+        Ok(())
+    } else {
+        Err(format!("reasons not ascending, or too many: {told:?}"))
+    }
+}
+
+/// Every kind with the line of the stage over a status and with each line of its rules.
+fn thinkable(sheet: &Sheet, status: usize) -> Vec<Reason> {
+    let statuses = &sheet.names.statuses;
+    let over = statuses[status].parent.map(|parent| statuses[parent].line);
+    let own = sheet.rules.iter().filter(|rule| rule.status == status).map(|rule| rule.line);
+    let lines = over.into_iter().chain(own);
+    lines.flat_map(|line| Kind::ALL.map(|kind| Reason { status, line, kind })).collect()
+}
+
+/// What a reason says is so: the named rule holds and none earlier does, the parent closed and no rule holds, or the
+/// named part fails and those before it do not.
+fn is_told(case: &Case, reason: Reason, after: u32, values: &[Option<i64>]) -> bool {
+    let names = &case.sheet.names;
+    let was = yes(case.before, reason.status);
+    let changed = was != yes(after, reason.status);
+    let change = if was { Change::Fall } else { Change::Rise };
+    let own = |rule: &&Rule| (rule.change, rule.status) == (change, reason.status);
+    let rules: Vec<&Rule> = case.sheet.rules.iter().filter(own).collect();
+    let first_held = rules.iter().find(|rule| holds(case, rule, after, values));
+    if reason.kind == Kind::Held {
+        return changed && first_held.is_some_and(|rule| rule.line == reason.line);
+    }
+    if reason.kind == Kind::Closed {
+        let parent = names.statuses[reason.status].parent.filter(|_| reason.status < names.stages);
+        let closing = parent.is_some_and(|parent| {
+            names.statuses[parent].line == reason.line && yes(case.before, parent) && !yes(after, parent)
+        });
+        return changed && was && closing && first_held.is_none();
+    }
+    let Some(rule) = rules.into_iter().find(|rule| rule.line == reason.line) else { return false };
+    let stops = match (triggered(case, rule, after), housed(case, rule, after), condition_of(rule, after, values)) {
+        (false, _, _) => Kind::TriggerNotMet,
+        (true, false, _) => Kind::HomeNotOpen,
+        (true, true, -1) => Kind::ConditionFalse,
+        (true, true, 0) => Kind::ConditionUnknown,
+        (true, true, _) => return false,
+    };
+    !changed && reason.kind == stops
+}
+
 /// All after sides in which each status changes exactly when some rule for that change holds.
 pub fn after_sides(case: &Case, values: &[Option<i64>]) -> Vec<u32> {
     let count = case.sheet.names.statuses.len();
@@ -133,26 +200,35 @@ fn some_rule_holds(case: &Case, node: Node, after: u32, values: &[Option<i64>]) 
 
 /// A rule holds when all four points do.
 fn holds(case: &Case, rule: &Rule, after: u32, values: &[Option<i64>]) -> bool {
-    let before = case.before;
     let was_right = match rule.change {
-        Change::Rise => !yes(before, rule.status),
-        Change::Fall => yes(before, rule.status),
+        Change::Rise => !yes(case.before, rule.status),
+        Change::Fall => yes(case.before, rule.status),
     };
-    let triggered = match rule.trigger {
+    was_right && triggered(case, rule, after) && condition_of(rule, after, values) == 1 && housed(case, rule, after)
+}
+
+fn triggered(case: &Case, rule: &Rule, after: u32) -> bool {
+    let before = case.before;
+    match rule.trigger {
         None => true,
         Some(Trigger::Event(event)) => event == case.event,
         Some(Trigger::Status(Change::Rise, status)) => !yes(before, status) && yes(after, status),
         Some(Trigger::Status(Change::Fall, status)) => yes(before, status) && !yes(after, status),
-    };
-    let condition = match &rule.condition {
-        None => true,
-        Some(condition) => kleene(condition, after, values) == 1,
-    };
-    let home = match (rule.change, case.sheet.names.statuses[rule.status].parent) {
+    }
+}
+
+fn condition_of(rule: &Rule, after: u32, values: &[Option<i64>]) -> i8 {
+    match &rule.condition {
+        None => 1,
+        Some(condition) => kleene(condition, after, values),
+    }
+}
+
+fn housed(case: &Case, rule: &Rule, after: u32) -> bool {
+    match (rule.change, case.sheet.names.statuses[rule.status].parent) {
         (Change::Rise, Some(parent)) => yes(after, parent),
         _ => true,
-    };
-    was_right && triggered && condition && home
+    }
 }
 
 /// Kleene's tables on numbers: false -1, unknown 0, true 1; not is minus, and the least, or the greatest.

@@ -9,23 +9,33 @@ use crate::{
 pub const DESK_BYTES: usize = 34_304;
 
 pub fn desk(input: &[u8]) -> Vec<u8> {
-    let mut output = Vec::new();
-    if let Err(refusal) = answer(input, &mut output) {
-        let [number, paper, line] = refusal.numbers();
-        output = format!("refused={number} {paper} {line}\n").into_bytes();
-    }
-    output
+    printed(input, print_step)
 }
 
-fn answer(input: &[u8], output: &mut Vec<u8>) -> Result<(), Refusal> {
+/// What a program at the desk prints: the refusal of its papers, or what it makes of their case.
+pub fn printed(input: &[u8], of_case: impl FnOnce(&Case) -> Vec<u8>) -> Vec<u8> {
+    match read(input) {
+        Ok(case) => of_case(&case),
+        Err(refusal) => {
+            let [number, paper, line] = refusal.numbers();
+            format!("refused={number} {paper} {line}\n").into_bytes()
+        }
+    }
+}
+
+fn read(input: &[u8]) -> Result<Case<'_>, Refusal> {
     if input.len() > DESK_BYTES {
         return Err(Refusal::of_request(Fault::Long));
     }
     let (sheet, rest) = split(input);
     let (card, event) = split(rest);
-    let case = Case::read(sheet, card, event)?;
+    Case::read(sheet, card, event)
+}
+
+/// The next card, the tasks started and the outlook.
+fn print_step(case: &Case) -> Vec<u8> {
     let next = case.next();
-    output.extend_from_slice(&next.card);
+    let mut output = next.card;
     for (index, status) in case.sheet.names.statuses.iter().enumerate() {
         if next.tasks >> index & 1 == 1 {
             for part in [b"start=", status.name, b"\n"] {
@@ -33,7 +43,7 @@ fn answer(input: &[u8], output: &mut Vec<u8>) -> Result<(), Refusal> {
             }
         }
     }
-    match outlook::patterns(&case) {
+    match outlook::patterns(case) {
         Some(patterns) => {
             for pattern in patterns {
                 output.extend_from_slice(format!("outlook={pattern}\n").as_bytes());
@@ -41,7 +51,7 @@ fn answer(input: &[u8], output: &mut Vec<u8>) -> Result<(), Refusal> {
         }
         None => output.extend_from_slice(b"outlook=refused\n"),
     }
-    Ok(())
+    output
 }
 
 /// Up to and with the first line that begins `end=`, and what is left.

@@ -1,5 +1,9 @@
 //! The document's examples, with their answers written by hand, and inputs for its odd corners.
 
+mod why;
+
+pub use why::{WhyExample, clerk_examples, why_examples};
+
 use crate::papers::Papers;
 
 pub const SHEET_P: &str = "\
@@ -34,7 +38,7 @@ end=6
 
 const LOOKED: &str = "looked income=?\n";
 
-/// An input of the desk program and what it prints.
+/// An input of the desk program, or of the clerk's, and what it prints.
 pub struct DeskExample {
     pub name: &'static str,
     pub input: Vec<u8>,

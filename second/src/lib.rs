@@ -1,12 +1,13 @@
 //! A second implementation of the rules, written from their document alone and by other ways where there are some.
 //!
-//! `step`, `outlook` and `desk` answer as the document says. `book` checks them the slow way on small sheets,
-//! `generate` makes papers from a seed, and `examples` holds the document's own.
+//! `step`, `outlook`, `why`, `desk` and `clerk_why` answer as the document and its requests say. `book` checks them the
+//! slow way on small sheets, `generate` makes papers from a seed, and `examples` holds the document's own.
 
 #![forbid(unsafe_code)]
 
 pub mod book;
 pub mod card;
+pub mod clerk;
 pub mod condition;
 pub mod desk;
 pub mod examples;
@@ -21,7 +22,9 @@ pub mod sheet;
 pub mod statistic;
 pub mod step;
 pub mod survey;
+pub mod why;
 
+pub use clerk::clerk_why;
 pub use desk::desk;
 pub use refusal::{Fault, Paper, Refusal};
 pub use step::Next;
@@ -39,4 +42,13 @@ pub fn outlook(sheet: &[u8], card: &[u8], event: &[u8], room: usize) -> Result<V
     let case = Case::read(sheet, card, event)?;
     let patterns = outlook::patterns(&case).ok_or(Refusal::of_request(Fault::Many))?;
     if patterns.len() > room { Err(Refusal::of_request(Fault::Room)) } else { Ok(patterns) }
+}
+
+/// The reasons as numbers, ascending; `room` is the space lent in entries.
+pub fn why(sheet: &[u8], card: &[u8], event: &[u8], room: usize) -> Result<Vec<u32>, Refusal> {
+    let reasons = why::reasons(&Case::read(sheet, card, event)?);
+    if reasons.len() > room {
+        return Err(Refusal::of_request(Fault::Room));
+    }
+    Ok(reasons.into_iter().map(why::Reason::number).collect())
 }

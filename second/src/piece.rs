@@ -39,6 +39,20 @@ pub fn read_paper<'a, T>(
 }
 
 impl<'a> Reader<'a> {
+    /// The line that is being read, from 1.
+    pub fn line(&self) -> usize {
+        self.line
+    }
+
+    pub fn at(&self) -> usize {
+        self.at
+    }
+
+    /// What has been read from a place on.
+    pub fn read_from(&self, start: usize) -> &'a [u8] {
+        &self.bytes[start..self.at]
+    }
+
     fn rest(&self) -> &'a [u8] {
         &self.bytes[self.at..]
     }
@@ -111,7 +125,7 @@ impl<'a> Reader<'a> {
     pub fn value(&mut self) -> Result<Value<'a>, Fault> {
         let start = self.at;
         let number = if self.take(b"?") { None } else { Some(self.number()?) };
-        Ok(Value { text: &self.bytes[start..self.at], number })
+        Ok(Value { text: self.read_from(start), number })
     }
 
     /// The last line of a sheet or card, with the true count.

@@ -33,6 +33,8 @@ pub struct Status<'a> {
     pub name: &'a [u8],
     /// The parent of a stage, the home of a mile.
     pub parent: Option<usize>,
+    /// Its line of the sheet.
+    pub line: usize,
 }
 
 /// What the sheet says above its rules.
@@ -62,17 +64,28 @@ pub enum Trigger {
 }
 
 #[derive(Debug)]
-pub struct Rule {
+pub struct Rule<'a> {
     pub change: Change,
     pub status: usize,
     pub trigger: Option<Trigger>,
     pub condition: Option<Condition>,
+    /// Its line of the sheet.
+    pub line: usize,
+    /// What stands behind its status, up to and with the LF.
+    pub words: &'a [u8],
+}
+
+impl Rule<'_> {
+    /// Of its condition; a rule without one is as one whose condition is true.
+    pub fn condition_value(&self, statuses: u32, values: &[Option<i64>]) -> Option<bool> {
+        self.condition.as_ref().map_or(Some(true), |condition| condition.value(statuses, values))
+    }
 }
 
 #[derive(Debug)]
 pub struct Sheet<'a> {
     pub names: Names<'a>,
-    pub rules: Vec<Rule>,
+    pub rules: Vec<Rule<'a>>,
 }
 
 impl<'a> Sheet<'a> {
@@ -168,6 +181,7 @@ impl<'a> Names<'a> {
     /// A stage with its parent or a mile with its home, behind the key.
     fn status_line(&self, reader: &mut Reader<'a>) -> Result<Status<'a>, Fault> {
         not_full(self.statuses.len(), STATUSES)?;
+        let line = reader.line();
         let name = self.new_name(reader)?;
         let mut parent = None;
         if reader.take(b" ") {
@@ -177,7 +191,7 @@ impl<'a> Names<'a> {
             }
         }
         reader.line_end()?;
-        Ok(Status { name, parent })
+        Ok(Status { name, parent, line })
     }
 
     /// The name of a status, as rules use it.
@@ -203,7 +217,7 @@ fn sign(reader: &mut Reader) -> Option<Change> {
     }
 }
 
-fn read_rules<'a>(reader: &mut Reader<'a>, names: &Names<'a>) -> Result<Vec<Rule>, Fault> {
+fn read_rules<'a>(reader: &mut Reader<'a>, names: &Names<'a>) -> Result<Vec<Rule<'a>>, Fault> {
     let mut rules = Vec::new();
     let mut leaves = 0;
     while reader.take(b"rule=") {
@@ -213,9 +227,11 @@ fn read_rules<'a>(reader: &mut Reader<'a>, names: &Names<'a>) -> Result<Vec<Rule
     Ok(rules)
 }
 
-fn read_rule<'a>(reader: &mut Reader<'a>, names: &Names<'a>, leaves: &mut usize) -> Result<Rule, Fault> {
+fn read_rule<'a>(reader: &mut Reader<'a>, names: &Names<'a>, leaves: &mut usize) -> Result<Rule<'a>, Fault> {
+    let line = reader.line();
     let change = sign(reader).ok_or(Fault::Line)?;
     let status = names.status(reader)?;
+    let start = reader.at();
     let trigger = if reader.take(b" on ") { Some(read_trigger(reader, names)?) } else { None };
     let condition = if reader.take(b" if ") {
         Some(ConditionReader { reader, names, leaves }.whole()?)
@@ -225,7 +241,7 @@ fn read_rule<'a>(reader: &mut Reader<'a>, names: &Names<'a>, leaves: &mut usize)
     } else {
         return Err(Fault::Line);
     };
-    Ok(Rule { change, status, trigger, condition })
+    Ok(Rule { change, status, trigger, condition, line, words: reader.read_from(start) })
 }
 
 fn read_trigger<'a>(reader: &mut Reader<'a>, names: &Names<'a>) -> Result<Trigger, Fault> {

@@ -1,14 +1,33 @@
-//! How often each refusal was met, by request, number and paper.
+//! How often each refusal was met, by request, number and paper, and each kind of reason.
 
 use std::collections::BTreeMap;
 
-use crate::refusal::{Fault, Paper, Refusal};
+use crate::{
+    refusal::{Fault, Paper, Refusal},
+    why::Kind,
+};
 
 #[derive(Clone, Copy, Debug, PartialEq, Eq, PartialOrd, Ord)]
 pub enum Request {
     Step,
     Outlook,
+    Why,
     Desk,
+    ClerkWhy,
+}
+
+impl Request {
+    const ALL: [Request; 5] = [Request::Step, Request::Outlook, Request::Why, Request::Desk, Request::ClerkWhy];
+
+    pub fn name(self) -> &'static str {
+        match self {
+            Request::Step => "step",
+            Request::Outlook => "outlook",
+            Request::Why => "why",
+            Request::Desk => "desk",
+            Request::ClerkWhy => "clerk why",
+        }
+    }
 }
 
 type Answer = (u64, u64);
@@ -20,6 +39,8 @@ pub struct Statistic {
     with_tasks: u64,
     several: u64,
     longest: usize,
+    kinds: BTreeMap<Kind, u64>,
+    most_reasons: usize,
 }
 
 impl Statistic {
@@ -42,12 +63,26 @@ impl Statistic {
         self.longest = self.longest.max(patterns);
     }
 
-    /// What the taken steps and outlooks gave.
+    /// Counts the kinds of reasons told as numbers.
+    pub fn told(&mut self, reasons: &[u32]) {
+        for kind in reasons.iter().filter_map(|&reason| Kind::of_number(reason)) {
+            *self.kinds.entry(kind).or_default() += 1;
+        }
+        self.most_reasons = self.most_reasons.max(reasons.len());
+    }
+
+    /// What the taken requests gave.
     pub fn results(&self) -> String {
+        let kinds = Kind::ALL.map(|kind| format!("{} {}", kind.words(), self.of_kind(kind))).join(", ");
         format!(
-            "status changed in {} steps, tasks started in {}; {} outlooks with several patterns, the longest with {}\n",
-            self.changed, self.with_tasks, self.several, self.longest
+            "status changed in {} steps, tasks started in {}; {} outlooks with several patterns, the longest with {}\n\
+             reasons: {kinds}; {} at most\n",
+            self.changed, self.with_tasks, self.several, self.longest, self.most_reasons
         )
+    }
+
+    fn of_kind(&self, kind: Kind) -> u64 {
+        self.kinds.get(&kind).copied().unwrap_or(0)
     }
 
     fn count(&mut self, request: Request, answer: Answer) {
@@ -58,13 +93,15 @@ impl Statistic {
         self.met.get(&(request, answer)).copied().unwrap_or(0)
     }
 
-    /// A table of numbers and papers, and whether each was met by each request that can give it.
+    /// A table of numbers and papers, with the kinds of reasons, and whether each was met by each request that can give
+    /// it.
     pub fn table(&self) -> (String, bool) {
-        let mut table = format!("{:>6} {:>5} {:>10} {:>10} {:>10}\n", "number", "paper", "step", "outlook", "desk");
-        let mut all_met = true;
+        let names = Request::ALL.map(|request| format!(" {:>10}", request.name())).concat();
+        let mut table = format!("{:>6} {:>5}{names}\n", "number", "paper");
+        let mut all_met = Kind::ALL.into_iter().all(|kind| self.of_kind(kind) > 0);
         for (number, paper) in answers() {
             let mut line = format!("{number:>6} {paper:>5}");
-            for request in [Request::Step, Request::Outlook, Request::Desk] {
+            for request in Request::ALL {
                 let count = self.of(request, (number, paper));
                 if !can_give(request, (number, paper)) {
                     line += &format!(" {:>10}", "-");
@@ -94,13 +131,13 @@ fn answers() -> Vec<Answer> {
 }
 
 fn can_give(request: Request, (number, paper): Answer) -> bool {
-    let at_desk = request == Request::Desk;
+    let at_desk = matches!(request, Request::Desk | Request::ClerkWhy);
     if (number, paper) == (Fault::Long as u64, 0) {
         at_desk
     } else if number == Fault::Room as u64 {
         !at_desk
     } else {
         // The desk shows MANY behind the card, as `outlook=refused`.
-        number != Fault::Many as u64 || request != Request::Step
+        number != Fault::Many as u64 || matches!(request, Request::Outlook | Request::Desk)
     }
 }

@@ -58,12 +58,45 @@ impl<'a> Case<'a> {
         let all: u64 = (1 << stages.len()) - 1;
         after & !self.before & all as u32 & !parents
     }
+
+    pub fn was(&self, status: usize) -> bool {
+        self.before >> status & 1 == 1
+    }
+
+    /// The parent or home, if any, is yes after.
+    pub fn may_rise(&self, status: usize, after: u32) -> bool {
+        self.sheet.names.statuses[status].parent.is_none_or(|parent| after >> parent & 1 == 1)
+    }
+
+    /// The stage's parent goes from yes to no.
+    fn parent_fell(&self, status: usize, after: u32) -> bool {
+        let names = &self.sheet.names;
+        let parent = if status < names.stages { names.statuses[status].parent } else { None };
+        parent.is_some_and(|parent| self.changed(Change::Fall, parent, after))
+    }
+
+    fn changed(&self, change: Change, status: usize, after: u32) -> bool {
+        let is = after >> status & 1 == 1;
+        match change {
+            Change::Rise => !self.was(status) && is,
+            Change::Fall => self.was(status) && !is,
+        }
+    }
+
+    /// The rule's trigger, if any, comes about.
+    pub fn triggered(&self, rule: &Rule, after: u32) -> bool {
+        match rule.trigger {
+            None => true,
+            Some(Trigger::Event(event)) => event == self.event,
+            Some(Trigger::Status(change, status)) => self.changed(change, status, after),
+        }
+    }
 }
 
 /// The rules of a case by their node, in the testing order.
 pub struct Run<'c, 'a> {
     case: &'c Case<'a>,
-    tests: Vec<(Node, Vec<&'c Rule>)>,
+    tests: Vec<(Node, Vec<&'c Rule<'a>>)>,
 }
 
 impl<'c, 'a> Run<'c, 'a> {
@@ -80,15 +113,15 @@ impl<'c, 'a> Run<'c, 'a> {
     pub fn statuses(&self, values: &[Option<i64>]) -> u32 {
         let mut after = self.case.before;
         for (node, rules) in &self.tests {
-            let was = self.was(node.status);
+            let was = self.case.was(node.status);
             let due = match node.change {
-                Change::Rise => !was && self.may_rise(node.status, after),
+                Change::Rise => !was && self.case.may_rise(node.status, after),
                 Change::Fall => was,
             };
             if !due {
                 continue;
             }
-            let implied = node.change == Change::Fall && self.parent_fell(node.status, after);
+            let implied = node.change == Change::Fall && self.case.parent_fell(node.status, after);
             if implied || rules.iter().any(|rule| self.holds(rule, after, values)) {
                 after ^= 1 << node.status;
             }
@@ -96,37 +129,8 @@ impl<'c, 'a> Run<'c, 'a> {
         after
     }
 
-    fn was(&self, status: usize) -> bool {
-        self.case.before >> status & 1 == 1
-    }
-
-    /// The parent or home, if any, is yes after.
-    fn may_rise(&self, status: usize, after: u32) -> bool {
-        self.case.sheet.names.statuses[status].parent.is_none_or(|parent| after >> parent & 1 == 1)
-    }
-
-    /// The stage's parent goes from yes to no.
-    fn parent_fell(&self, status: usize, after: u32) -> bool {
-        let names = &self.case.sheet.names;
-        let parent = if status < names.stages { names.statuses[status].parent } else { None };
-        parent.is_some_and(|parent| self.changed(Change::Fall, parent, after))
-    }
-
-    fn changed(&self, change: Change, status: usize, after: u32) -> bool {
-        let is = after >> status & 1 == 1;
-        match change {
-            Change::Rise => !self.was(status) && is,
-            Change::Fall => self.was(status) && !is,
-        }
-    }
-
     /// Trigger and condition of a rule whose status may change.
     fn holds(&self, rule: &Rule, after: u32, values: &[Option<i64>]) -> bool {
-        let triggered = match rule.trigger {
-            None => true,
-            Some(Trigger::Event(event)) => event == self.case.event,
-            Some(Trigger::Status(change, status)) => self.changed(change, status, after),
-        };
-        triggered && rule.condition.as_ref().is_none_or(|condition| condition.value(after, values) == Some(true))
+        self.case.triggered(rule, after) && rule.condition_value(after, values) == Some(true)
     }
 }

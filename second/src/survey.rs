@@ -16,7 +16,9 @@ use crate::{
 pub struct Answers {
     pub step: Result<Next, Refusal>,
     pub outlook: Result<Vec<u32>, Refusal>,
+    pub why: Result<Vec<u32>, Refusal>,
     pub desk: Vec<u8>,
+    pub clerk_why: Vec<u8>,
 }
 
 impl Answers {
@@ -25,7 +27,9 @@ impl Answers {
         Answers {
             step: crate::step(sheet, card, event, usize::MAX),
             outlook: crate::outlook(sheet, card, event, usize::MAX),
+            why: crate::why(sheet, card, event, usize::MAX),
             desk: crate::desk(&papers.joined()),
+            clerk_why: crate::clerk_why(&papers.joined()),
         }
     }
 
@@ -46,15 +50,24 @@ impl Answers {
             }
             Err(refusal) => statistic.refused(Request::Outlook, *refusal),
         }
-        match desk_refusal(&self.desk) {
-            None => statistic.taken(Request::Desk),
-            Some(refusal) => statistic.refused(Request::Desk, refusal),
+        match &self.why {
+            Ok(reasons) => {
+                statistic.taken(Request::Why);
+                statistic.told(reasons);
+            }
+            Err(refusal) => statistic.refused(Request::Why, *refusal),
+        }
+        for (request, output) in [(Request::Desk, &self.desk), (Request::ClerkWhy, &self.clerk_why)] {
+            match printed_refusal(output) {
+                None => statistic.taken(request),
+                Some(refusal) => statistic.refused(request, refusal),
+            }
         }
     }
 }
 
-/// The refusal that the desk printed, if it printed one.
-fn desk_refusal(output: &[u8]) -> Option<Refusal> {
+/// The refusal that a program printed, if it printed one.
+fn printed_refusal(output: &[u8]) -> Option<Refusal> {
     if output.ends_with(b"\noutlook=refused\n") {
         return Some(Refusal::of_request(Fault::Many));
     }
@@ -84,6 +97,7 @@ pub fn check_by_book(papers: &Papers, random: &mut Random) -> Result<(), String>
     }
     if let Ok(case) = Case::read(&papers.sheet, &papers.card, &papers.event) {
         book::check_case(&case, random)?;
+        book::check_why(&case)?;
     }
     Ok(())
 }
@@ -120,5 +134,5 @@ fn seed_and_count() -> Result<(u64, u64), String> {
     }
 }
 
-/// From so many cases on, each number of each paper must be met.
+/// From so many cases on, each number of each paper and each kind of reason must be met.
 pub const ENOUGH_CASES: u64 = 20_000;

@@ -1,7 +1,7 @@
 //! The document's examples, byte for byte, and the odd corners.
 
 use second::{
-    examples::{CARD_Q, SHEET_P, corner_examples, desk_examples},
+    examples::{CARD_Q, SHEET_P, clerk_examples, corner_examples, desk_examples, why_examples},
     outlook::cuts,
     sheet::Sheet,
     step::Case,
@@ -50,6 +50,30 @@ fn many_comes_before_room_and_never_from_the_step() {
     assert_eq!(second::outlook(sheet, card, event, 0).expect_err("too many").numbers(), [10, 0, 0]);
     assert_eq!(second::step(sheet, card, event, 0).expect_err("no room").numbers(), [9, 0, 0]);
     assert!(second::step(sheet, card, event, 1_024).is_ok());
+}
+
+#[test]
+fn why_tells_what_the_request_says() {
+    for example in why_examples() {
+        let papers = &example.papers;
+        let reasons = second::why(&papers.sheet, &papers.card, &papers.event, example.room);
+        assert_eq!(reasons.map_err(|refusal| refusal.numbers()), example.answer, "{}\n{papers}", example.name);
+    }
+}
+
+#[test]
+fn clerk_prints_what_the_request_says() {
+    for example in clerk_examples() {
+        let printed = String::from_utf8(second::clerk_why(&example.input)).expect("printed text");
+        assert_eq!(printed, example.output, "{}", example.name);
+    }
+}
+
+#[test]
+fn clerk_refuses_as_the_desk_does() {
+    for example in desk_examples().into_iter().filter(|example| example.output.starts_with("refused=")) {
+        assert_eq!(second::clerk_why(&example.input), example.output.as_bytes(), "{}", example.name);
+    }
 }
 
 #[test]

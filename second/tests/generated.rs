@@ -32,6 +32,28 @@ fn small_sheets_are_as_in_the_book() {
 }
 
 #[test]
+fn clerk_shows_the_lines_of_the_sheet() {
+    let mut shown = 0;
+    for index in 0..4_000 {
+        let papers = generate(5, index);
+        let printed = String::from_utf8(second::clerk_why(&papers.joined())).expect("printed text");
+        let sheet = String::from_utf8_lossy(&papers.sheet);
+        let sheet: Vec<&str> = sheet.split('\n').collect();
+        for line in printed.lines() {
+            let Some((status, told)) = line.strip_prefix("why=").and_then(|rest| rest.split_once(" line ")) else {
+                continue;
+            };
+            let (number, _) = told.split_once(' ').expect("a line's number");
+            let (_, words) = told.split_once(':').expect("a rule's words");
+            let number: usize = number.parse().expect("a number");
+            assert_eq!(sheet[number - 1], format!("rule={status}{words}"), "case {index}\n{papers}");
+            shown += 1;
+        }
+    }
+    assert!(shown > 1_000, "{shown} lines shown");
+}
+
+#[test]
 fn the_full_shape_is_at_every_limit() {
     for listing in Listing::ALL {
         let papers = Shape { listing, ..Shape::FULL }.papers();

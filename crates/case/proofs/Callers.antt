@@ -1,4 +1,4 @@
--- What a caller may conclude from the answer: the card and the event line that were taken, or their refusal.
+-- What a caller may conclude from the answer: the card and the event line that were taken, or their refusal; and with an accepted sheet, the case of all three papers.
 use Prim.Native.Nat.{ℕ}
 use mathlib.Core.Path.{_≡_, refl, _∙_, ap}
 use mathlib.Core.List.{List}
@@ -6,8 +6,17 @@ use native.Mathlib.Omega.{arith}
 use Rattle.meaning.specs.Refusal.{Answer, taken, refused}
 use Rattle.meaning.specs.Sheet as M
 use Rattle.meaning.specs.Doors as D
-use Rattle.meaning.specs.Doors.{readTold}
+use Rattle.meaning.specs.Doors.{readSheet, readTold, Case, readCase}
 use Rattle.theory.specs.Numbers.{told-tells}
+use Rattle.theory.specs.Papers.{caseOf, case-joined}
+use Rattle.tables.specs.Heads.{headsOf}
+use Rattle.card.specs.declared.Card.{Card}
+use Rattle.card.specs.Answers.{asCard}
+use Rattle.event.specs.declared.Happening.{Happening}
+use Rattle.event.specs.Answers.{asHappening}
+use Rattle.accepted.specs.declared.Accepted.{Accepted}
+use Rattle.accepted.specs.Answers.{takenSheet, asAccepted}
+use Rattle.accepted.proofs.Callers.{accept-read, accept-wrong, accept-heads}
 use Rattle.case.specs.declared.Told.{Told}
 use Rattle.case.specs.Answers.{refusedTold, takenTold, asTold}
 
@@ -29,3 +38,35 @@ module _ (hd : M.Heads) (c e : List ℕ) (r : Told) (told : r ≡ asTold hd (rea
       go : (x : Answer D.Told) → readTold hd c e ≡ x → readTold hd c e ≡ refused (r .number) (r .paper) (r .line)
       go (taken t) q = absurd (z (ap (λ (r : Told). r .number) (told ∙ ap (asTold hd) q)))
       go (refused n p l) q = let y : r ≡ refusedTold n p l = told ∙ ap (asTold hd) q in rw y q
+
+-- THE THREE PAPERS
+
+-- the case that they tell, and its parts as the code has them
+pub record TheCase (s c e : List ℕ) (x : Accepted) (card : Card) (happening : Happening) : Type 0 where
+  pub k : Case
+  pub q : readCase s c e ≡ taken k
+  pub sheet : x ≡ takenSheet (record { sheet = k .sheet; order = k .order })
+  pub given : card ≡ asCard (k .sheet .heads) (k .card)
+  pub happened : happening ≡ asHappening (k .sheet .heads) (k .happening)
+
+module _ (s c e : List ℕ) (x : Accepted) (sheet-told : x ≡ asAccepted (readSheet s)) where
+  pub sheet-refused : (x .number ≡ 0 → ⊥) → readCase s c e ≡ refused (x .number) 1 (x .line)
+  unfolding readCase
+  sheet-refused z = rw (accept-wrong s x sheet-told z)
+
+  module _ (zero : x .number ≡ 0) (t : Told) (told : t ≡ asTold (headsOf (x .heads)) (readTold (headsOf (x .heads)) c e)) where
+    abbrev hd : M.Heads
+    hd = accept-read s x sheet-told zero .sheet .sheet .heads
+
+    told-is : t ≡ asTold hd (readTold hd c e)
+    told-is = told ∙ ap (λ hd. asTold hd (readTold hd c e)) (accept-heads s x sheet-told zero)
+
+    pub told-refused : (t .number ≡ 0 → ⊥) → readCase s c e ≡ refused (t .number) (t .paper) (t .line)
+    unfolding readCase
+    told-refused z = rw (accept-read s x sheet-told zero .same, told-wrong hd c e t told-is z)
+
+    pub the-case : t .number ≡ 0 → TheCase s c e x (t .card) (t .happening)
+    the-case read =
+        let a = accept-read s x sheet-told zero in
+        let (m, same, is) = told-read hd c e t told-is read in
+        record { k = caseOf (a .sheet) m; q = case-joined s c e (a .sheet) m (a .same) same; sheet = a .is; given = ap (λ (t : Told). t .card) is; happened = ap (λ (t : Told). t .happening) is }

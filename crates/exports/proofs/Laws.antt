@@ -61,22 +61,22 @@ module _ (places : List ℕ) (enough : 5 ≤ length places) where
 
 pub ruleset telling = (few-number, few-places, few-space, told-number, told-places, told-space)
 
--- THE DESK
+-- THE PROGRAMS
 
 -- too little room, and all is as it was
-module _ (lent : List ℕ) (few : length lent < 81920) where
-  pub no-room : {A : Type 0} (asked otherwise : A) → otherwise ≡ withRoom lent asked otherwise
+module _ (least : ℕ) (lent : List ℕ) (few : length lent < least) where
+  pub no-room : {A : Type 0} (asked otherwise : A) → otherwise ≡ withRoom least lent asked otherwise
   unfolding withRoom
-  no-room asked otherwise = sym (rw (lt-leb 81920 (length lent) few))
+  no-room asked otherwise = sym (rw (lt-leb least (length lent) few))
 
 -- room for all: what was printed, and how long it is
-module _ (lent : List ℕ) (enough : 81920 ≤ length lent) (l : List ℕ) (n : ℕ) (now : List ℕ) (printed : Front l n lent now) where
-  pub room-count : n ≡ withRoom lent (length l) 0
+module _ (least : ℕ) (lent : List ℕ) (enough : least ≤ length lent) (l : List ℕ) (n : ℕ) (now : List ℕ) (printed : Front l n lent now) where
+  pub room-count : n ≡ withRoom least lent (length l) 0
   unfolding withRoom
-  room-count = printed .count ∙ sym (rw (le-leb 81920 (length lent) enough))
+  room-count = printed .count ∙ sym (rw (le-leb least (length lent) enough))
 
-  pub room-space : now ≡ withRoom lent (l ++ drop (length l) lent) lent
+  pub room-space : now ≡ withRoom least lent (l ++ drop (length l) lent) lent
   unfolding withRoom
-  room-space = printed .list ∙ ap (λ k. l ++ drop k lent) (printed .count) ∙ sym (rw (le-leb 81920 (length lent) enough))
+  room-space = printed .list ∙ ap (λ k. l ++ drop k lent) (printed .count) ∙ sym (rw (le-leb least (length lent) enough))
 
 pub ruleset printing = (no-room, room-count, room-space)

@@ -3,7 +3,9 @@ use denote.Ref.{now}
 use Rattle.theory.specs.Determined.{Determines, Settles, only}
 use Rattle.exports.proofs.reambodkin_step.Reads as Step
 use Rattle.exports.proofs.reambodkin_outlook.Reads as Outlook
+use Rattle.exports.proofs.reambodkin_why.Reads as Why
 use Rattle.exports.proofs.reambodkin_desk.Reads as Desk
+use Rattle.exports.proofs.reambodkin_clerk_why.Reads as ClerkWhy
 
 pub step-number-only : Determines Step.Learnt
 step-number-only κs a r q s t h g = only (h .0) (g .0)
@@ -25,9 +27,24 @@ outlook-places-only κs a r q s t h g = only (h .1 .0) (g .1 .0)
 pub outlook-space-only : Settles Outlook.Learnt (λ κs r s. now (s .1 .1 .1 .0))
 outlook-space-only κs a r q s t h g = only (h .1 .1) (g .1 .1)
 
+pub why-number-only : Determines Why.Learnt
+why-number-only κs a r q s t h g = only (h .0) (g .0)
+
+pub why-places-only : Settles Why.Learnt (λ κs r s. now (s .1 .1 .1 .1 .0))
+why-places-only κs a r q s t h g = only (h .1 .0) (g .1 .0)
+
+pub why-space-only : Settles Why.Learnt (λ κs r s. now (s .1 .1 .1 .0))
+why-space-only κs a r q s t h g = only (h .1 .1) (g .1 .1)
+
 pub desk-count-only : Determines Desk.Learnt
 desk-count-only κs a r q s t h g = only (h .0) (g .0)
 
 -- the lent space is the second parameter
 pub desk-space-only : Settles Desk.Learnt (λ κs r s. now (s .1 .0))
 desk-space-only κs a r q s t h g = only (h .1) (g .1)
+
+pub clerk-why-count-only : Determines ClerkWhy.Learnt
+clerk-why-count-only κs a r q s t h g = only (h .0) (g .0)
+
+pub clerk-why-space-only : Settles ClerkWhy.Learnt (λ κs r s. now (s .1 .0))
+clerk-why-space-only κs a r q s t h g = only (h .1) (g .1)

@@ -23,6 +23,6 @@ numberTold places r = withPlaces places (r .number) ROOM
 unfoldable pub placesTold : List ℕ → Reply → List ℕ
 placesTold places r = withPlaces places (numbers r ++ drop 5 places) places
 
--- what is asked for, where the desk is lent room for all that it can print; otherwise this stands in its stead
-unfoldable pub withRoom : {A : Type 0} → List ℕ → A → A → A
-withRoom lent asked otherwise = cond (leb 81920 (length lent)) asked otherwise
+-- what is asked for, where a program is lent room for all that it can print; otherwise this stands in its stead
+unfoldable pub withRoom : {A : Type 0} → ℕ → List ℕ → A → A → A
+withRoom least lent asked otherwise = cond (leb least (length lent)) asked otherwise

@@ -3,8 +3,9 @@ ghost use mathlib.Core.Path.{_≡_};
 ghost use mathlib.Core.List.{_++_};
 ghost use Prim.Native.Nat.{_≤_};
 ghost use lib.ListN.{length, drop};
-ghost use Rattle.meaning.specs.Doors.{stepReply, stepSpace, outlookReply, outlookSpace};
+ghost use Rattle.meaning.specs.Doors.{stepReply, stepSpace, outlookReply, outlookSpace, whyReply, whySpace};
 ghost use Rattle.meaning.specs.Desk.{deskOutput};
+ghost use Rattle.meaning.specs.Clerk.{whyOutput};
 ghost use Rattle.reply.specs.Answers.{asReply};
 ghost use Rattle.exports.specs.Exports.{numbers, withPlaces, numberTold, placesTold, withRoom};
 use reply::Reply;
@@ -64,14 +65,46 @@ pub extern "C" fn reambodkin_outlook(
     tell(told, reply)
 }
 
+// Why, likewise.
+#[no_mangle]
+pub extern "C" fn reambodkin_why(
+    sheet: &[u8],
+    card: &[u8],
+    event: &[u8],
+    out: &mut [u32],
+    reply: &mut [u64],
+) -> u64
+    ensures answer { λ r. ⌜ r ≡ numberTold (now (reply .entry)) (asReply (whyReply (now (sheet .entry)) (now (card .entry)) (now (event .entry)) (length (now (out .entry))))) ⌝ }
+    ensures places { λ r. ⌜ now (reply .exit) ≡ placesTold (now (reply .entry)) (asReply (whyReply (now (sheet .entry)) (now (card .entry)) (now (event .entry)) (length (now (out .entry))))) ⌝ }
+    ensures space { λ r. ⌜ now (out .exit) ≡ withPlaces (now (reply .entry)) (whySpace (now (sheet .entry)) (now (card .entry)) (now (event .entry)) (now (out .entry))) (now (out .entry)) ⌝ }
+{
+    if reply.len() < 5 {
+        return 9;
+    }
+    let told = reambodkin::why(sheet, card, event, out);
+    tell(told, reply)
+}
+
 // What the desk program prints for its input, at the start of `out`, and how long it is. Where `out` has fewer than 81,920 bytes nothing is touched and 0 is returned.
 #[no_mangle]
 pub extern "C" fn reambodkin_desk(input: &[u8], out: &mut [u8]) -> usize
-    ensures answer { λ r. ⌜ r ≡ withRoom (now (out .entry)) (length (deskOutput (now (input .entry)))) 0 ⌝ }
-    ensures space { λ r. ⌜ now (out .exit) ≡ withRoom (now (out .entry)) (deskOutput (now (input .entry)) ++ drop (length (deskOutput (now (input .entry)))) (now (out .entry))) (now (out .entry)) ⌝ }
+    ensures answer { λ r. ⌜ r ≡ withRoom 81920 (now (out .entry)) (length (deskOutput (now (input .entry)))) 0 ⌝ }
+    ensures space { λ r. ⌜ now (out .exit) ≡ withRoom 81920 (now (out .entry)) (deskOutput (now (input .entry)) ++ drop (length (deskOutput (now (input .entry)))) (now (out .entry))) (now (out .entry)) ⌝ }
 {
     if out.len() < 81920 {
         return 0;
     }
     output::desk_output(input, out)
+}
+
+// What the clerk's program prints with the word `why`, likewise; here fewer than 49,152 bytes are too few.
+#[no_mangle]
+pub extern "C" fn reambodkin_clerk_why(input: &[u8], out: &mut [u8]) -> usize
+    ensures answer { λ r. ⌜ r ≡ withRoom 49152 (now (out .entry)) (length (whyOutput (now (input .entry)))) 0 ⌝ }
+    ensures space { λ r. ⌜ now (out .exit) ≡ withRoom 49152 (now (out .entry)) (whyOutput (now (input .entry)) ++ drop (length (whyOutput (now (input .entry)))) (now (out .entry))) (now (out .entry)) ⌝ }
+{
+    if out.len() < 49152 {
+        return 0;
+    }
+    readout::why_output(input, out)
 }

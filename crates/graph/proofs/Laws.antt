@@ -2,7 +2,7 @@
 use Prim.Native.Nat.{ℕ, zero, suc, _+_, _-_, _*_, _/_, _%_, _≤_, _<_}
 use mathlib.Core.Path.{_≡_, refl, sym, _∙_, ap, ap₂, subst}
 use mathlib.Core.Bool.{Bool, true, false, cond, _&&_, _||_}
-use mathlib.Core.List.{List, [], _∷_, _++_, map, append-assoc}
+use mathlib.Core.List.{List, [], _∷_, _++_, map}
 use native.Mathlib.Omega.{arith}
 use native.Mathlib.Numerals.{add-one}
 use native.Mathlib.Decide.{ℕ-discrete}
@@ -13,7 +13,7 @@ use borrow.Author.Tests.{eq-eqb, ne-eqb, lt-ltb, le-ltb, le-leb, lt-leb}
 use Rattle.meaning.specs.Text.{any, isIn, keep, joined}
 use Rattle.meaning.specs.Graph.{Into, edge, orderFor}
 use Rattle.meaning.specs.Tests.{up, down, both}
-use Rattle.theory.specs.Lists.{joined-both, joined-one}
+use Rattle.theory.specs.Lists.{joined-both, joined-one, keep-append}
 use Rattle.order.specs.declared.Sorting.{Sorting}
 use Rattle.order.specs.Masks.{has, maskInto, withBit}
 use Rattle.order.specs.Answers.{asSorting}
@@ -257,14 +257,7 @@ pub ruleset joining = (test-added)
 -- those kept of two lists, and one row more
 module _ {A B : Type 0} (f : A → List B) (q : A → Bool) where
   pub keep-both : (xs ys : List A) → joined f (keep q (xs ++ ys)) ≡ joined f (keep q xs) ++ joined f (keep q ys)
-  unfolding joined keep
-  keep-both [] ys = refl
-  keep-both (x ∷ xs) ys = go (q x) (keep-both xs ys)
-    where
-      go : (b : Bool) → joined f (keep q (xs ++ ys)) ≡ joined f (keep q xs) ++ joined f (keep q ys)
-          → joined f (elim b [ true ↦ x ∷ keep q (xs ++ ys) | false ↦ keep q (xs ++ ys) ]) ≡ joined f (elim b [ true ↦ x ∷ keep q xs | false ↦ keep q xs ]) ++ joined f (keep q ys)
-      go true ih = ap (λ l. f x ++ l) ih ∙ sym (append-assoc (f x) (joined f (keep q xs)) (joined f (keep q ys)))
-      go false ih = ih
+  keep-both xs ys = ap (joined f) (keep-append q xs ys) ∙ joined-both f (keep q xs) (keep q ys)
 
   pub keep-one : (x : A) → joined f (keep q (x ∷ [])) ≡ cond (q x) (f x) []
   unfolding joined keep

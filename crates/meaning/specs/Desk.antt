@@ -1,6 +1,6 @@
 -- The desk program: what it prints for the whole of its input.
 use Prim.Native.Nat.{ℕ, suc}
-use mathlib.Core.Bool.{Bool, true, false, _&&_}
+use mathlib.Core.Bool.{Bool, true, false, _&&_, cond}
 use mathlib.Core.List.{List, [], _∷_, _++_}
 use lib.ListN.{length, take, drop}
 use lib.Dec.{ltb, eqb}
@@ -52,10 +52,11 @@ unfoldable pub printed : Answer Case → List ℕ
 printed (refused n p l) = refusalText n p l
 printed (taken c) = next c .card ++ startLines (c .sheet .heads .stages) (next c .tasks) ++ outlookLines (outlook c)
 
--- "It reads the sheet .., the card .., and takes the rest as the event. .. Over 34,304 bytes: LONG, paper 0, line 0"
+-- "It reads the sheet .., the card .., and takes the rest as the event. .. Over 34,304 bytes: LONG, paper 0, line 0"; what is printed for the papers is the program's
+abbrev pub onPapers : (List ℕ → List ℕ → List ℕ → List ℕ) → List ℕ → List ℕ
+onPapers print input =
+    let rest = afterPaper input in
+    cond (ltb deskBytes (length input)) (refusalText LONG 0 0) (print (firstPaper input) (firstPaper rest) (afterPaper rest))
+
 unfoldable pub deskOutput : List ℕ → List ℕ
-deskOutput input =
-    elim (ltb deskBytes (length input)) [
-      | true ↦ refusalText LONG 0 0
-      | false ↦ let rest = afterPaper input in printed (readCase (firstPaper input) (firstPaper rest) (afterPaper rest))
-    ]
+deskOutput input = onPapers (λ sheet card event. printed (readCase sheet card event)) input

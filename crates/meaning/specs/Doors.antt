@@ -1,7 +1,7 @@
--- The two requests over the same three papers: what each returns, and what the lent space then holds.
+-- The three requests over the same three papers: what each returns, and what the lent space then holds.
 use Prim.Native.Nat.{ℕ}
 use mathlib.Core.Bool.{Bool, true, false, cond}
-use mathlib.Core.List.{List, _++_}
+use mathlib.Core.List.{List, _++_, map}
 use mathlib.Core.Option.{Option, none, some}
 use lib.ListN.{length, drop}
 use lib.Dec.{leb}
@@ -15,6 +15,7 @@ use Rattle.meaning.specs.Tests.{tests}
 use Rattle.meaning.specs.Dependency.{testingOrder}
 use Rattle.meaning.specs.Step.{moment, putIn, leadsTo, started, pattern}
 use Rattle.meaning.specs.Outlook.{many, patterns}
+use Rattle.meaning.specs.Why.{Reason, coded, reasons}
 use Rattle.meaning.specs.Write.{cardText}
 
 -- a sheet that is accepted, with its testing order
@@ -77,6 +78,16 @@ outlook c =
     let m = moment (c .card) (c .happening) in
     elim (many (tests (c .sheet)) m) [ true ↦ refused MANY 0 0 | false ↦ taken (patterns (tests (c .sheet)) (c .order) m) ]
 
+-- Why: the reasons on the card after the step
+unfoldable pub reasonsIn : Case → List Reason
+reasonsIn c =
+    let m = moment (c .card) (c .happening) in
+    reasons (c .sheet) m (leadsTo (tests (c .sheet)) m (c .order))
+
+-- as numbers
+unfoldable pub why : Case → List ℕ
+why c = map coded (reasonsIn c)
+
 -- ROOM: "next card or list longer than the space lent"
 unfoldable pub fitting : {A : Type 0} → (A → List ℕ) → ℕ → A → Answer A
 fitting out room a = cond (leb (length (out a)) room) (taken a) (refused ROOM 0 0)
@@ -93,6 +104,12 @@ outlookAnswer sheet card event room = do
   c ← readCase sheet card event
   l ← outlook c
   fitting (λ l. l) room l
+
+-- "Refusals: as for a step"; ROOM is for the list
+unfoldable pub whyAnswer : List ℕ → List ℕ → List ℕ → ℕ → Answer (List ℕ)
+whyAnswer sheet card event room = do
+  c ← readCase sheet card event
+  fitting (λ l. l) room (why c)
 
 -- The numbers returned: number, paper and line, how long the card or list is, and the tasks started, "as a pattern"
 pub record Reply : Type 0 where
@@ -125,3 +142,10 @@ outlookReply sheet card event room = replied (λ l. length l) (λ l. 0) (outlook
 
 unfoldable pub outlookSpace : List ℕ → List ℕ → List ℕ → List ℕ → List ℕ
 outlookSpace sheet card event lent = written (λ l. l) lent (outlookAnswer sheet card event (length lent))
+
+-- What `why` returns, and what the space lent to it then holds
+unfoldable pub whyReply : List ℕ → List ℕ → List ℕ → ℕ → Reply
+whyReply sheet card event room = replied (λ l. length l) (λ l. 0) (whyAnswer sheet card event room)
+
+unfoldable pub whySpace : List ℕ → List ℕ → List ℕ → List ℕ → List ℕ
+whySpace sheet card event lent = written (λ l. l) lent (whyAnswer sheet card event (length lent))

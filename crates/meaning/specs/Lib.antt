@@ -1,4 +1,4 @@
--- Document 01 as definitions, in the order in which to read them.
+-- Document 01 and the requests behind it as definitions, in the order in which to read them.
 -- Texts, refusals, and how a paper is read:
 pub mod Text
 pub mod Refusal
@@ -20,8 +20,10 @@ pub mod Tests
 pub mod Dependency
 pub mod Step
 pub mod Outlook
+pub mod Why
 pub mod Write
--- The two requests and the program:
+-- The three requests and the two programs:
 pub mod Doors
 pub mod Desk
+pub mod Clerk
 pub mod Computing

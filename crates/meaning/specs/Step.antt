@@ -7,7 +7,7 @@ use mathlib.Core.Option.{Option, none, some}
 use lib.ListN.{length, getD, set}
 use lib.Dec.{eqb}
 use Rattle.meaning.specs.Text.{any}
-use Rattle.meaning.specs.Kleene.{known₃, isTrue}
+use Rattle.meaning.specs.Kleene.{Kleene, true₃, known₃, isTrue}
 use Rattle.meaning.specs.Number.{Value, missing, Entry}
 use Rattle.meaning.specs.Condition.{Cond, valueC}
 use Rattle.meaning.specs.Sheet.{Status, Trigger, always, event, rise, fall}
@@ -66,10 +66,14 @@ module _ (m : Moment) (after : List Bool) where
   housed none = true
   housed (some p) = is after p
 
-  -- "its condition, if any, is true (not unknown)", "read on the after side"
+  -- how "its condition, if any" stands, "read on the after side"; none is true
+  abbrev pub conditionOn : Option Cond → Kleene
+  conditionOn none = true₃
+  conditionOn (some c) = valueC (λ x. known₃ (is after x)) (λ f. getD (m .values) f missing) c
+
+  -- it "is true (not unknown)"
   unfoldable pub fulfilled : Option Cond → Bool
-  fulfilled none = true
-  fulfilled (some c) = isTrue (valueC (λ x. known₃ (is after x)) (λ f. getD (m .values) f missing) c)
+  fulfilled c = isTrue (conditionOn c)
 
   -- "A rule holds when all of these do"
   unfoldable pub holds : Test → Bool

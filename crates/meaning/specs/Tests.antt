@@ -57,9 +57,13 @@ unfoldable pub ruleTests : Heads → ℕ → List Rule → List Test
 ruleTests hd l [] = []
 ruleTests hd l (r ∷ rs) = testOf hd l r ∷ ruleTests hd (suc l) rs
 
--- the line of the first rule: behind those of the model, the fields, the events, the stages and the miles
+-- the line of a status, by its place: behind those of the model, the fields and the events
+abbrev pub statusLine : Heads → ℕ → ℕ
+statusLine hd x = 2 + length (hd .fields) + length (hd .events) + x
+
+-- the line of the first rule: behind that of the last status
 unfoldable pub ruleLine : Heads → ℕ
-ruleLine hd = 2 + length (hd .fields) + length (hd .events) + length (statuses hd)
+ruleLine hd = statusLine hd (length (statuses hd))
 
 -- "a stage that was yes closes when its parent goes from yes to no": of stage x and its parent p, the trigger is `-p`
 abbrev pub closes : ℕ → ℕ → Test

@@ -6,7 +6,7 @@ use mathlib.Core.List.{List, [], _∷_, _++_, map}
 use native.Mathlib.Omega.{arith}
 use mir.Val.{Fits}
 use mir.Syntax.{w64}
-use borrow.Author.Tests.{eq-eqb, ne-eqb, le-leb, lt-ltb, le-ltb}
+use borrow.Author.Tests.{eq-eqb, ne-eqb, le-leb}
 use lib.Dec.{leb, ltb}
 use lib.ListN.{length, length-append, length-map, take, drop}
 use lib.Seq.{take-at}
@@ -19,9 +19,9 @@ use Rattle.meaning.specs.Step.{moment, putIn, startedFrom, started, pattern}
 use Rattle.meaning.specs.Outlook as Outlook
 use Rattle.meaning.specs.Write.{line}
 use Rattle.meaning.specs.Doors.{readSheet, readTold, Case, readCase, next, outlook, fitting, replied, written}
-use Rattle.meaning.specs.Desk.{paperLength, firstPaper, afterPaper, refusalText, startLines, outlookLines, printed, deskOutput}
+use Rattle.meaning.specs.Desk.{paperLength, refusalText, startLines, outlookLines, printed, deskOutput}
 use Rattle.theory.specs.Formed.{WellHeads}
-use Rattle.theory.specs.Papers.{Papers, case-holds, caseOf, case-joined, case-short}
+use Rattle.theory.specs.Papers.{Papers, case-holds, case-short}
 use Rattle.theory.specs.Cases.{at, after, case-meets}
 use Rattle.theory.specs.Accepted.{card-length, case-entries}
 use Rattle.tables.specs.declared.Heads.{Heads}
@@ -44,19 +44,19 @@ use Rattle.test.specs.Codes.{asMoment}
 use Rattle.moment.specs.Tables.{momentOf}
 use Rattle.accepted.specs.declared.Accepted.{Accepted}
 use Rattle.accepted.specs.Answers.{takenSheet, asAccepted}
-use Rattle.accepted.proofs.Callers.{accept-read, accept-wrong, accept-sized, accept-heads}
+use Rattle.accepted.proofs.Callers.{accept-sized}
 use Rattle.case.specs.declared.Told.{Told}
 use Rattle.case.specs.Answers.{asTold}
-use Rattle.case.proofs.Callers.{told-read, told-wrong}
+use Rattle.case.proofs.Callers.{TheCase, sheet-refused, told-refused, the-case}
 use Rattle.next.specs.Next.{textAfter, tasksAfter, replyAfter}
 use Rattle.next.proofs.Callers.{text-after, tasks-after}
 use Rattle.outlook.specs.Patterns.{Ready, triedOf, listOf, replyFor, spaceFor}
 use Rattle.outlook.proofs.Callers.{ready, moment-at, reply-outlook, space-outlook}
 use Rattle.print.specs.Lines.{startText, patternText, manyText}
 use Rattle.print.proofs.Callers.{refusal-few}
-use Rattle.split.proofs.Callers.{paper-fits}
+use Rattle.split.proofs.Callers.{input-long, input-done}
 use Rattle.output.specs.Texts.{startsText, listedText, caseText, Within}
-use Rattle.output.proofs.Lines.{starts-few, listed-few, part-long}
+use Rattle.output.proofs.Lines.{starts-few, listed-few}
 
 -- TASKS
 
@@ -293,39 +293,27 @@ module _ {x y : Accepted} {c d : Card} {h i : Happening} (p : x ≡ y) (q : c �
 
 module _ (s c e : List ℕ) (x : Accepted) (sheet-told : x ≡ asAccepted (readSheet s)) where
   pub case-sheet : (x .number ≡ 0 → ⊥) → (o o1 : List ℕ) (r : ℕ) → Wrote 0 (refusalText (x .number) 1 (x .line)) o o1 r → Wrote 0 (printed (readCase s c e)) o o1 r
-  unfolding printed readCase
-  case-sheet z o o1 r v = rw (accept-wrong s x sheet-told z) v
+  unfolding printed
+  case-sheet z o o1 r v = rw (sheet-refused s c e x sheet-told z) v
 
   module _ (zero : x .number ≡ 0) where
     pub case-sized : Sized (x .heads)
     case-sized = accept-sized s x sheet-told zero
 
-    abbrev hd : M.Heads
-    hd = accept-read s x sheet-told zero .sheet .sheet .heads
-
     module _ (t : Told) (told : t ≡ asTold (headsOf (x .heads)) (readTold (headsOf (x .heads)) c e)) where
-      told-is : t ≡ asTold hd (readTold hd c e)
-      told-is = told ∙ ap (λ hd. asTold hd (readTold hd c e)) (accept-heads s x sheet-told zero)
-
       pub case-refused : (t .number ≡ 0 → ⊥) → (o o1 : List ℕ) (r : ℕ) → Wrote 0 (refusalText (t .number) (t .paper) (t .line)) o o1 r → Wrote 0 (printed (readCase s c e)) o o1 r
-      unfolding printed readCase
-      case-refused z o o1 r v = rw (accept-read s x sheet-told zero .same, told-wrong hd c e t told-is z) v
+      unfolding printed
+      case-refused z o o1 r v = rw (told-refused s c e x sheet-told zero t told z) v
 
       module _ (read : t .number ≡ 0) where
-        the-case : (k : Case) × (readCase s c e ≡ taken k) × (x ≡ takenSheet (record { sheet = k .sheet; order = k .order }))
-            × (t .card ≡ asCard (k .sheet .heads) (k .card)) × (t .happening ≡ asHappening (k .sheet .heads) (k .happening))
-        the-case =
-            let a = accept-read s x sheet-told zero in
-            let (m, same, is) = told-read hd c e t told-is read in
-            (caseOf (a .sheet) m, case-joined s c e (a .sheet) m (a .same) same, a .is, ap (λ (t : Told). t .card) is, ap (λ (t : Told). t .happening) is)
+        abbrev here : TheCase s c e x (t .card) (t .happening)
+        here = the-case s c e x sheet-told zero t told read
 
         pub case-within : Within x (t .card) (t .happening) c e
-        case-within = let (k, q, is, card, happened) = the-case in within-as is card happened c e (within s c e k q)
+        case-within = within-as (here .sheet) (here .given) (here .happened) c e (within s c e (here .k) (here .q))
 
         pub case-done : (o o1 : List ℕ) (r : ℕ) → Wrote 0 (caseText x (t .card) (t .happening) c e) o o1 r → Wrote 0 (printed (readCase s c e)) o o1 r
-        case-done o o1 r v =
-            let (k, q, is, card, happened) = the-case in
-            subst (λ w. Wrote 0 w o o1 r) (text-as is card happened c e ∙ sym (ap printed q ∙ printed-is s c e k q)) v
+        case-done o o1 r v = subst (λ w. Wrote 0 w o o1 r) (text-as (here .sheet) (here .given) (here .happened) c e ∙ sym (ap printed (here .q) ∙ printed-is s c e (here .k) (here .q))) v
 
 -- room for a refusal
 pub refusal-room : (n p l : ℕ) (o : List ℕ) → 81920 ≤ length o → length (refusalText n p l) ≤ length o
@@ -335,34 +323,18 @@ pub ruleset casing = (refusal-room, case-sheet, case-sized, case-refused, case-w
 
 -- THE WHOLE INPUT
 
-front-of : (w o o1 : List ℕ) (r : ℕ) → Wrote 0 w o o1 r → Front w r o o1
-front-of w o o1 r v =
-    let z : 0 + length w ≡ length w = omega arith in
-    record { count = v .next ∙ z; list = v .space ∙ ap (λ n. w ++ drop n o) (sym (v .next)) }
+-- what is printed for three papers
+abbrev paper : List ℕ → List ℕ → List ℕ → List ℕ
+paper sheet card event = printed (readCase sheet card event)
 
 module _ (input o : List ℕ) where
   pub desk-long : 34304 < length input → (o1 : List ℕ) (r : ℕ) → Wrote 0 (refusalText 1 0 0) o o1 r → Front (deskOutput input) r o o1
   unfolding deskOutput
-  desk-long h o1 r v = rw (lt-ltb 34304 (length input) h, deskOutput) (front-of (refusalText 1 0 0) o o1 r v)
+  desk-long = input-long paper input o
 
-  module _ (a : ℕ) (first : a ≡ paperLength true input) where
-    pub desk-first : a ≡ length (take a input)
-    desk-first = part-long input a (paper-fits input a first)
+  pub desk-done : (a : ℕ) → a ≡ paperLength true input → (rest : List ℕ) → rest ≡ drop a input → (b : ℕ) → b ≡ paperLength true rest → length input ≤ 34304
+      → (last : List ℕ) → last ≡ drop b rest → (o1 : List ℕ) (r : ℕ) → Wrote 0 (printed (readCase (take a input) (take b rest) last)) o o1 r → Front (deskOutput input) r o o1
+  unfolding deskOutput
+  desk-done = input-done paper input o
 
-    pub desk-first-in : a ≤ length input
-    desk-first-in = paper-fits input a first
-
-    module _ (rest : List ℕ) (after : rest ≡ drop a input) (b : ℕ) (second : b ≡ paperLength true rest) where
-      pub desk-second : b ≡ length (take b rest)
-      desk-second = part-long rest b (paper-fits rest b second)
-
-      pub desk-second-in : b ≤ length rest
-      desk-second-in = paper-fits rest b second
-
-      pub desk-done : length input ≤ 34304 → (last : List ℕ) → last ≡ drop b rest → (o1 : List ℕ) (r : ℕ)
-          → Wrote 0 (printed (readCase (take a input) (take b rest) last)) o o1 r → Front (deskOutput input) r o o1
-      unfolding deskOutput firstPaper afterPaper
-      desk-done h last behind o1 r v = rw (le-ltb 34304 (length input) h, deskOutput)
-          (rw (← first, ← after, ← second, ← behind) (front-of (printed (readCase (take a input) (take b rest) last)) o o1 r v))
-
-pub ruleset desking = (refusal-room, desk-long, desk-first, desk-first-in, desk-second, desk-second-in, desk-done)
+pub ruleset desking = (refusal-room, desk-long, desk-done)

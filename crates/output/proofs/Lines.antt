@@ -7,8 +7,8 @@ use native.Mathlib.Omega.{arith}
 use native.Mathlib.Numerals.{add-one}
 use borrow.Author.Tests.{le-leb, ltb-false}
 use lib.Dec.{ltb}
-use lib.ListN.{length, length-map, length-append, getD, take, drop, drop-of-length-le}
-use lib.Seq.{drop-cons, take-at, length-take-le}
+use lib.ListN.{length, length-map, length-append, getD, take, drop}
+use lib.Seq.{take-at, length-take-le}
 use Rattle.meaning.specs.Text.{joined, from}
 use Rattle.meaning.specs.Write.{line}
 use Rattle.theory.specs.Lists.{from-length}
@@ -22,6 +22,7 @@ use Rattle.reply.specs.Answers.{refusedReply}
 use Rattle.test.specs.declared.Moment.{Moment}
 use Rattle.outlook.specs.Patterns.{patternAt, fixedOf, triedOf, listOf, replyFor, spaceFor}
 use Rattle.print.specs.Lines.{startText, patternText, manyText}
+use Rattle.print.proofs.Laws.{listing-room}
 use Rattle.print.proofs.Callers.{start-few, pattern-few}
 use Rattle.output.specs.Texts.{startsText, listedText}
 
@@ -76,37 +77,14 @@ pub ruleset starting = (starting-start, starting-long, starting-end, starting-in
 
 -- PATTERNS
 
-joined-over : (ps : List ℕ) (i : ℕ) → length ps ≤ i → joined patternText (drop i ps) ≡ []
-unfolding joined
-joined-over ps i h = rw (drop-of-length-le ps h)
-
-joined-next : (ps : List ℕ) (i : ℕ) → i < length ps → joined patternText (drop i ps) ≡ patternText (getD ps i 0) ++ joined patternText (drop (i + 1) ps)
-unfolding joined
-joined-next ps i h = rw (add-one, drop-cons ps i 0 h)
-
 patterns-few : (ps : List ℕ) → length (joined patternText ps) ≤ length ps * 19
 unfolding joined
 patterns-few [] = omega arith
 patterns-few (p ∷ ps) = omega (arith, patterns-few ps, pattern-few p, length-append (patternText p) (joined patternText ps))
 
-pub listing-start : (at : ℕ) (ps o : List ℕ) → at + length (joined patternText ps) ≤ length o → Left at (joined patternText ps) o at (joined patternText (drop 0 ps)) o
-listing-start at ps o h = left-start at (joined patternText ps) o h
-
-module _ (at₀ : ℕ) (ps o₀ : List ℕ) (at i : ℕ) (o : List ℕ) (l : Left at₀ (joined patternText ps) o₀ at (joined patternText (drop i ps)) o) where
-  pub listing-long : length o ≡ length o₀
-  listing-long = l .long
-
-  pub listing-end : length ps ≤ i → Wrote at₀ (joined patternText ps) o₀ o at
-  listing-end h = left-end at₀ (joined patternText ps) o₀ at (joined patternText (drop i ps)) o l (joined-over ps i h)
-
-  module _ (h : i < length ps) where
-    pub listing-room : at + length (patternText (getD ps i 0)) ≤ length o
-    listing-room = left-room at₀ (joined patternText ps) o₀ at (joined patternText (drop i ps)) o l (patternText (getD ps i 0)) (joined patternText (drop (i + 1) ps)) (joined-next ps i h)
-
-    pub listing-more : (o1 : List ℕ) (b : ℕ) → Wrote at (patternText (getD ps i 0)) o o1 b → (j : ℕ) → j ≡ i + 1 → Left at₀ (joined patternText ps) o₀ b (joined patternText (drop j ps)) o1
-    listing-more o1 b v j z = rw z (left-more at₀ (joined patternText ps) o₀ at (joined patternText (drop i ps)) o l (patternText (getD ps i 0)) (joined patternText (drop (i + 1) ps)) (joined-next ps i h) o1 b v)
-
-pub ruleset listing = (listing-start, listing-long, listing-end, listing-room, listing-more)
+pub patterns-room : (at₀ : ℕ) (ps o₀ : List ℕ) (at i : ℕ) (o : List ℕ) → Left at₀ (joined patternText ps) o₀ at (joined patternText (drop i ps)) o → i < length ps
+    → at + length (patternText (getD ps i 0)) ≤ length o
+patterns-room = listing-room patternText
 
 -- THE OUTLOOK
 

@@ -6,36 +6,27 @@ use native.Mathlib.Omega.{arith}
 use lib.Dec.{eqb, ltb}
 use lib.ListN.{length, length-append}
 use Rattle.meaning.specs.Text.{text}
-use Rattle.meaning.specs.Number.{decimal, writtenIn}
+use Rattle.meaning.specs.Number.{decimal}
 use Rattle.meaning.specs.Write.{line}
 use Rattle.meaning.specs.Desk.{refusalText}
+use Rattle.theory.specs.Counts.{decimal-few}
 use Rattle.theory.specs.Accepted.{line-length}
 use Rattle.text.specs.Packed.{byteOf, namedIn, named}
 use Rattle.print.specs.Lines.{startText, patternText}
 
--- a number has ten digits at most
-digits-few : (k n : ℕ) → length (writtenIn k n) ≤ k
-unfolding writtenIn
-digits-few zero n = omega arith
-digits-few (suc k) n = go (ltb n 10) (digits-few k (n / 10))
-  where
-    go : (b : Bool) → length (writtenIn k (n / 10)) ≤ k → length {A = ℕ} (elim b [ true ↦ (48 + n) ∷ [] | false ↦ writtenIn k (n / 10) ++ ((48 + n % 10) ∷ []) ]) ≤ suc k
-    go true h = omega arith
-    go false h = omega (arith, length-append (writtenIn k (n / 10)) ((48 + n % 10) ∷ []))
-
-decimal-few : (n : ℕ) → length (decimal n) ≤ 10
-unfolding decimal
-decimal-few n = digits-few 10 n
-
 -- a packed name thirteen symbols
-named-few : (k v : ℕ) → length (namedIn k v) ≤ k
+symbols-few : (k v : ℕ) → length (namedIn k v) ≤ k
 unfolding namedIn
-named-few zero v = omega arith
-named-few (suc k) v = go (eqb v 0) (named-few k (v / 38))
+symbols-few zero v = omega arith
+symbols-few (suc k) v = go (eqb v 0) (symbols-few k (v / 38))
   where
     go : (b : Bool) → length (namedIn k (v / 38)) ≤ k → length {A = ℕ} (elim b [ true ↦ [] | false ↦ byteOf (v % 38) ∷ namedIn k (v / 38) ]) ≤ suc k
     go true h = omega arith
     go false h = omega arith
+
+named-few : (v : ℕ) → length (named v) ≤ 13
+unfolding named
+named-few v = symbols-few 13 v
 
 pub refusal-few : (n p l : ℕ) → length (refusalText n p l) ≤ 41
 unfolding refusalText
@@ -53,11 +44,11 @@ refusal-few n p l =
     )
 
 pub start-few : (n t : ℕ) → length (startText n t) ≤ 20
-unfolding startText named
+unfolding startText
 start-few n t = go (eqb (t % 2) 1)
   where
-    go : (b : Bool) → length (cond b (line (text "start") (namedIn 13 n)) []) ≤ 20
-    go true = omega (arith, line-length (text "start") (namedIn 13 n), named-few 13 n)
+    go : (b : Bool) → length (cond b (line (text "start") (named n)) []) ≤ 20
+    go true = omega (arith, line-length (text "start") (named n), named-few n)
     go false = omega arith
 
 pub pattern-few : (p : ℕ) → length (patternText p) ≤ 19

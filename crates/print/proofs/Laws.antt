@@ -3,15 +3,17 @@ use Prim.Native.Nat.{ℕ, zero, suc, _+_, _-_, _/_, _%_, _<_, _≤_}
 use mathlib.Core.Path.{_≡_, refl, sym, ap, subst}
 use mathlib.Core.List.{List, [], _∷_, _++_, append-assoc}
 use native.Mathlib.Omega.{arith}
+use native.Mathlib.Numerals.{add-one}
 use borrow.Author.Tests.{eq-eqb, ne-eqb, lt-ltb, le-ltb}
-use lib.ListN.{length, length-append}
-use Rattle.meaning.specs.Text.{text}
+use lib.ListN.{length, length-append, getD, drop, drop-of-length-le}
+use lib.Seq.{drop-cons}
+use Rattle.meaning.specs.Text.{text, joined}
 use Rattle.meaning.specs.Number.{decimal, writtenIn}
 use Rattle.meaning.specs.Write.{line}
 use Rattle.meaning.specs.Desk.{refusalText}
 use Rattle.text.specs.Packed.{named}
 use Rattle.space.specs.Answers.{Wrote}
-use Rattle.space.proofs.Laws.{left-start, left-end, wrote-room, wrote-both}
+use Rattle.space.proofs.Laws.{Left, left-start, left-end, left-room, left-more, wrote-room, wrote-both}
 use Rattle.print.specs.Lines.{startText, patternText, manyText}
 
 -- PIECES, one behind the other
@@ -25,14 +27,14 @@ module _ (at : ℕ) (w x y o : List ℕ) (whole : w ≡ x ++ y) (fits : at + len
   both-fit : at + length (x ++ y) ≤ length o
   both-fit = rw whole at fits
 
-  first-room : at + length x ≤ length o
+  pub first-room : at + length x ≤ length o
   first-room = omega (arith, both-fit, length-append x y)
 
   module _ (o1 : List ℕ) (a : ℕ) (v : Wrote at x o o1 a) where
-    second-room : a + length y ≤ length o1
+    pub second-room : a + length y ≤ length o1
     second-room = wrote-room at x y o o1 a both-fit v
 
-    both-written : (o2 : List ℕ) (r : ℕ) → Wrote a y o1 o2 r → Wrote at w o o2 r
+    pub both-written : (o2 : List ℕ) (r : ℕ) → Wrote a y o1 o2 r → Wrote at w o o2 r
     both-written o2 r u = subst (λ w. Wrote at w o o2 r) (sym whole) (wrote-both at x y o o1 a both-fit v o2 r u)
 
 -- NUMBERS
@@ -201,3 +203,32 @@ unfolding line
 many-done at o o1 r v = v
 
 pub ruleset overflowing = (many-room, many-done)
+
+-- A LINE FOR EACH NUMBER OF A LIST, whatever the line is
+module _ (f : ℕ → List ℕ) where
+  joined-over : (ps : List ℕ) (i : ℕ) → length ps ≤ i → joined f (drop i ps) ≡ []
+  unfolding joined
+  joined-over ps i h = rw (drop-of-length-le ps h)
+
+  joined-next : (ps : List ℕ) (i : ℕ) → i < length ps → joined f (drop i ps) ≡ f (getD ps i 0) ++ joined f (drop (i + 1) ps)
+  unfolding joined
+  joined-next ps i h = rw (add-one, drop-cons ps i 0 h)
+
+  pub listing-start : (at : ℕ) (ps o : List ℕ) → at + length (joined f ps) ≤ length o → Left at (joined f ps) o at (joined f (drop 0 ps)) o
+  listing-start at ps o h = left-start at (joined f ps) o h
+
+  module _ (at₀ : ℕ) (ps o₀ : List ℕ) (at i : ℕ) (o : List ℕ) (l : Left at₀ (joined f ps) o₀ at (joined f (drop i ps)) o) where
+    pub listing-long : length o ≡ length o₀
+    listing-long = l .long
+
+    pub listing-end : length ps ≤ i → Wrote at₀ (joined f ps) o₀ o at
+    listing-end h = left-end at₀ (joined f ps) o₀ at (joined f (drop i ps)) o l (joined-over ps i h)
+
+    module _ (h : i < length ps) where
+      pub listing-room : at + length (f (getD ps i 0)) ≤ length o
+      listing-room = left-room at₀ (joined f ps) o₀ at (joined f (drop i ps)) o l (f (getD ps i 0)) (joined f (drop (i + 1) ps)) (joined-next ps i h)
+
+      pub listing-more : (o1 : List ℕ) (b : ℕ) → Wrote at (f (getD ps i 0)) o o1 b → (j : ℕ) → j ≡ i + 1 → Left at₀ (joined f ps) o₀ b (joined f (drop j ps)) o1
+      listing-more o1 b v j z = rw z (left-more at₀ (joined f ps) o₀ at (joined f (drop i ps)) o l (f (getD ps i 0)) (joined f (drop (i + 1) ps)) (joined-next ps i h) o1 b v)
+
+pub ruleset listing = (listing-start, listing-long, listing-end, listing-room, listing-more)

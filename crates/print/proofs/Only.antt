@@ -1,15 +1,22 @@
 -- No second answer fits the contracts, and no other content of the lent space.
 use denote.Ref.{now}
 use Rattle.theory.specs.Determined.{Determines, Settles, only}
+use Rattle.print.proofs.put_number.Reads as PutNumber
 use Rattle.print.proofs.put_refusal.Reads as PutRefusal
 use Rattle.print.proofs.put_start.Reads as PutStart
 use Rattle.print.proofs.put_pattern.Reads as PutPattern
 use Rattle.print.proofs.put_many.Reads as PutMany
 
+pub put-number-only : Determines PutNumber.Learnt
+put-number-only κs a r q s t h g = only (h .next) (g .next)
+
+-- the lent space is the first parameter
+pub put-number-space-only : Settles PutNumber.Learnt (λ κs r s. now (s .0))
+put-number-space-only κs a r q s t h g = only (h .space) (g .space)
+
 pub put-refusal-only : Determines PutRefusal.Learnt
 put-refusal-only κs a r q s t h g = only (h .next) (g .next)
 
--- the lent space is the first parameter
 pub put-refusal-space-only : Settles PutRefusal.Learnt (λ κs r s. now (s .0))
 put-refusal-space-only κs a r q s t h g = only (h .space) (g .space)
 

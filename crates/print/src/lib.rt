@@ -1,4 +1,4 @@
-// The lines that the desk program prints, put into lent space.
+// The lines that the desk program prints, and numbers in any line, put into lent space.
 ghost use mathlib.Core.Path.{_≡_};
 ghost use mathlib.Core.List.{[], _∷_, _++_};
 ghost use Prim.Native.Nat.{_≤_, _+_};
@@ -24,7 +24,7 @@ fn put_digits(out: &mut [u8], at: usize, n: u64, left: usize) -> usize
 }
 
 // Puts a number, and the byte that ends it.
-fn put_number(out: &mut [u8], at: usize, n: u64, b: u8) -> usize
+pub fn put_number(out: &mut [u8], at: usize, n: u64, b: u8) -> usize
     requires { ⌜ at + length (decimal n ++ (b ∷ [])) ≤ length (now out) ⌝ }
     ensures { λ r. ⌜ Wrote at (decimal n ++ (b ∷ [])) (now (out .entry)) (now (out .exit)) r ⌝ }
 {

@@ -1,10 +1,11 @@
--- WHAT DOCUMENT 01 DEMANDS, proved of the code. `Stepped s c e lent r out` (in `Calls`) is a call of `step` on the papers s, c, e and the space `lent`, with the reply r and the space left as `out`, as far as the function DECLARES it in its contract; `Looked` likewise of `outlook`. The other words are those of `meaning`.
+-- WHAT DOCUMENT 01 DEMANDS, and what the requests behind it do, proved of the code. `Stepped s c e lent r out` (in `Calls`) is a call of `step` on the papers s, c, e and the space `lent`, with the reply r and the space left as `out`, as far as the function DECLARES it in its contract; `Looked` likewise of `outlook`, `Asked` of `why`. The other words are those of `meaning`.
 use Prim.Native.Nat.{ℕ, _≤_, _<_}
-use mathlib.Core.Path.{_≡_}
-use mathlib.Core.Bool.{Bool, true}
-use mathlib.Core.List.{List, [], _∷_}
+use mathlib.Core.Path.{_≡_, sym, _∙_}
+use mathlib.Core.Bool.{Bool, true, false}
+use mathlib.Core.List.{List, [], _∷_, map}
 use mathlib.Core.Option.{some}
 use mathlib.Core.Logic.{_↔_, Iff·trans}
+use native.Mathlib.Omega.{arith}
 use lib.ListN.{length, getD, take, drop}
 use Rattle.meaning.specs.Text.{In}
 use Rattle.meaning.specs.Kleene.{true₃, known₃}
@@ -19,18 +20,20 @@ use Rattle.meaning.specs.Tests.{nodes, Test, tests}
 use Rattle.meaning.specs.Dependency.{predecessors}
 use Rattle.meaning.specs.Step.{Moment, Meets, holds, putIn, leadsTo, pattern}
 use Rattle.meaning.specs.Outlook.{IsOutlook, filledWith, parts, cuts, isCut}
-use Rattle.meaning.specs.Doors.{Accepted, readSheet, Case, readCase, next, stepAnswer, outlookAnswer}
+use Rattle.meaning.specs.Why.{Reason, coded, linesFor, changed, IsWhy}
+use Rattle.meaning.specs.Doors.{Accepted, readSheet, Case, readCase, next, reasonsIn, why, stepAnswer, outlookAnswer, whyAnswer}
 use Rattle.theory.specs.Cases.{at, after, Known}
+use Rattle.theory.specs.Whys.{about}
 use Rattle.theory.specs.Requests as Requests
 use Rattle.theory.specs.Demands as Theory
 use Rattle.reply.specs.declared.Reply.{Reply}
 use Rattle.reply.specs.Answers.{refusedReply}
-use Rattle.reambodkin.proofs.Script.{told-exactly, taken-number, list-given}
-use Rattle.reambodkin.proofs.Calls.{InOrder, StepKeeps, OutlookKeeps, step-keeps, outlook-keeps, Stepped, Looked, stepped, looked, step-refused, outlook-refused, step-took, outlook-took}
+use Rattle.reambodkin.proofs.Script.{told-back, told-exactly, taken-number, list-given}
+use Rattle.reambodkin.proofs.Calls.{InOrder, StepKeeps, OutlookKeeps, WhyKeeps, step-keeps, outlook-keeps, why-keeps, Stepped, Looked, Asked, stepped, looked, asked, step-refused, outlook-refused, why-refused, step-took, outlook-took, why-took}
 
--- DEMAND 1. "It takes any sheet, card and event line and comes to an end": for whatever arguments, the code of `step` and that of `outlook` end, and keep what they declare.
-pub doors-keep : {M : Type 1} → StepKeeps M × OutlookKeeps M
-doors-keep = (step-keeps, outlook-keeps)
+-- DEMAND 1. "It takes any sheet, card and event line and comes to an end": for whatever arguments, the code of each door ends, and keeps what it declares.
+pub doors-keep : {M : Type 1} → StepKeeps M × OutlookKeeps M × WhyKeeps M
+doors-keep = (step-keeps, outlook-keeps, why-keeps)
 
 -- "What it can't take it refuses with a fixed number, the paper and the line, and the lent space is then untouched."
 pub record Refused {A : Type 0} (most : ℕ) (told : Answer A) (lent : List ℕ) (r : Reply) (out : List ℕ) : Type 0 where
@@ -118,3 +121,40 @@ filling-one = Theory.filling-one
 -- the cuts that the parts count are the document's, each once
 pub cuts-right : (ts : List Test) (f : ℕ) → ((v : ℕ) → In v (cuts ts f) ↔ (isCut ts f v ≡ true)) × ((i j : ℕ) → i < j → j < length (cuts ts f) → getD (cuts ts f) i 0 < getD (cuts ts f) j 0)
 cuts-right = Requests.cuts-right
+
+-- REQUEST T-01. "For each status that changed, .. the first rule line that held, or, where no line held, the parent whose closing closed it. For each that did not, every rule line for the change it could have made, with the first thing that stopped it." What each reason says of the card that the step writes is `Says` in `meaning`: "the named rule holds and none earlier does, or the named part fails and those before it don't".
+pub record Explained (s c e lent : List ℕ) (r : Reply) (out : List ℕ) : Type 0 where
+  pub case : Case
+  pub read : readCase s c e ≡ taken case
+  pub places : (r .paper ≡ 0) × (r .line ≡ 0) × (r .tasks ≡ 0)
+  pub list : List Reason
+  pub told : (take (r .count) out ≡ map coded list) × (r .count ≡ length (map coded list))
+  pub right : IsWhy (case .sheet) (at case) (after case) list
+  pub only : (l : List Reason) → IsWhy (case .sheet) (at case) (after case) l → map coded l ≡ take (r .count) out
+  -- a status that changed has exactly one reason, any other one for each line of its direction, in their order, and no more
+  pub changed-one : (x : ℕ) → x < length (at case .before) → changed (case .sheet) (at case) (after case) x ≡ true → length (about x list) ≡ 1
+  pub line-one : (x : ℕ) → x < length (at case .before) → changed (case .sheet) (at case) (after case) x ≡ false → map (λ (q : Reason). q .line) (about x list) ≡ map (λ (t : Test). t .line) (linesFor (case .sheet) (at case) (after case) x)
+  pub behind : drop (r .count) out ≡ drop (r .count) lent
+
+module _ {s c e lent : List ℕ} {r : Reply} {out : List ℕ} (done : Asked s c e lent r out) where
+  pub why-refuses : (r .number ≡ 0 → ⊥) → Refused 9 (whyAnswer s c e (length lent)) lent r out
+  why-refuses z = let (t, f, n, k, u) = why-refused done z in record { as-told = t; fixed = f; others = (n, k); untouched = u }
+
+  -- "Refusals: as for a step": where papers are refused, both calls tell the same
+  pub why-as-step : {room : List ℕ} {q : Reply} {left : List ℕ} → Stepped s c e room q left → (n p l : ℕ) → readCase s c e ≡ refused n p l → (r ≡ refusedReply n p l) × (q ≡ refusedReply n p l)
+  why-as-step step n p l h = let (a, b) = Requests.why-refusal s c e _ _ n p l h in (told-back (asked done) n p l a .0, told-back (stepped step) n p l b .0)
+
+  pub why-cycle : (sh : Sheet) → InOrder s sh → (r ≡ refusedReply CYCLE 1 0) ↔ Cycle (predecessors (tests sh))
+  why-cycle sh q = Iff·trans (told-exactly (asked done) CYCLE 1 0 tt) (Requests.why-circle s c e (length lent) sh q)
+
+  -- papers that are taken give the reasons, and ROOM exactly when there are more of them than places
+  pub why-room : (k : Case) → readCase s c e ≡ taken k → (length (why k) ≤ length lent → r .number ≡ 0) × ((r ≡ refusedReply ROOM 0 0) ↔ (length lent < length (why k)))
+  why-room k q = (λ h. taken-number (asked done) (why k) (Requests.why-taken s c e (length lent) k q h), Iff·trans (told-exactly (asked done) ROOM 0 0 tt) (Requests.why-fits s c e (length lent) k q))
+
+  -- "There are never more than rule lines and child stages together (128 + 31)": with so many places it is never ROOM
+  pub why-enough : (k : Case) → readCase s c e ≡ taken k → 159 ≤ length lent → r .number ≡ 0
+  why-enough k q h = why-room k q .0 (omega (arith, Theory.why-most s c e k q))
+
+  pub why-right : r .number ≡ 0 → Explained s c e lent r out
+  why-right z = let (k, q, g) = why-took done z in
+      record { case = k; read = q; places = (g .number .1, g .number .2, g .tells); list = reasonsIn k; told = (g .front, g .count); right = Theory.why-right s c e k q; only = λ l h. Theory.why-one (k .sheet) (at k) (after k) l (reasonsIn k) h (Theory.why-right s c e k q) ∙ sym (g .front); changed-one = Theory.why-changed s c e k q; line-one = Theory.why-lines s c e k q; behind = g .behind }

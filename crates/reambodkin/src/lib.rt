@@ -1,7 +1,7 @@
 // The doors: what callers outside may ask for a case, on the bytes of its three papers and the space that they lend.
 ghost use mathlib.Core.Path.{_≡_};
 ghost use lib.ListN.{length};
-ghost use Rattle.meaning.specs.Doors.{stepReply, stepSpace, outlookReply, outlookSpace};
+ghost use Rattle.meaning.specs.Doors.{stepReply, stepSpace, outlookReply, outlookSpace, whyReply, whySpace};
 ghost use Rattle.reply.specs.Answers.{asReply};
 use reply::Reply;
 
@@ -42,4 +42,24 @@ pub fn outlook(sheet: &[u8], card: &[u8], event: &[u8], out: &mut [u32]) -> Repl
     let happening = told.happening;
     let moment = moment::moment_of(given, happening);
     outlook::outlook_case(accepted, moment, out)
+}
+
+// Why each status changed, or what stopped each line of its change: the reasons as numbers, ascending, at the start of `out`, and how many there are; or a refusal, and `out` is untouched.
+pub fn why(sheet: &[u8], card: &[u8], event: &[u8], out: &mut [u32]) -> Reply
+    ensures answer { λ r. ⌜ r ≡ asReply (whyReply (now (sheet .entry)) (now (card .entry)) (now (event .entry)) (length (now (out .entry)))) ⌝ }
+    ensures space { λ r. ⌜ now (out .exit) ≡ whySpace (now (sheet .entry)) (now (card .entry)) (now (event .entry)) (now (out .entry)) ⌝ }
+{
+    let accepted = accepted::accept(sheet);
+    if accepted.number != 0 {
+        return reply::refusal(accepted.number, reply::SHEET, accepted.line);
+    }
+    let heads = accepted.heads;
+    let told = case::read_told(heads, card, event);
+    if told.number != 0 {
+        return reply::refusal(told.number, told.paper, told.line);
+    }
+    let given = told.card;
+    let happening = told.happening;
+    let moment = moment::moment_of(given, happening);
+    why::why_case(accepted, moment, out)
 }

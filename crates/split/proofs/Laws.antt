@@ -1,18 +1,19 @@
 -- Lines and papers at the start of a text, in the form in which the functions' answers need them.
-use Prim.Native.Nat.{ℕ, suc, _+_, _^_, _<_, _≤_}
-use mathlib.Core.Path.{_≡_, refl, sym, _∙_, ap}
+use Prim.Native.Nat.{ℕ, zero, suc, _+_, _-_, _^_, _<_, _≤_}
+use mathlib.Core.Path.{_≡_, refl, sym, _∙_, ap, ap₂}
 use mathlib.Core.Bool.{Bool, true, false, not, _&&_}
-use mathlib.Core.List.{List, [], _∷_}
+use mathlib.Core.List.{List, [], _∷_, _++_, append-nil}
 use native.Mathlib.Omega.{arith}
 use native.Mathlib.Numerals.{add-one}
 use mir.Val.{Fits}
 use mir.Syntax.{w64}
 use borrow.Author.Tests.{eq-eqb, ne-eqb, not-true, not-false}
 use lib.Dec.{eqb}
-use lib.ListN.{length, drop, getD, length-drop}
-use lib.Seq.{drop-cons}
+use lib.ListN.{length, take, drop, set, getD, length-drop, length-set}
+use lib.Seq.{drop-cons, take-all, take-suc-set, append-snoc}
 use Rattle.meaning.specs.Text.{text, begins}
 use Rattle.meaning.specs.Desk.{lineLength, paperLength}
+use Rattle.split.specs.Lines.{startsFrom}
 
 -- LINES
 
@@ -116,3 +117,52 @@ pub passing-fits : (s u : List ℕ) (i n : ℕ) → i < length s → length s < 
 passing-fits s u i n h g v z k q = rw q (omega (arith, line-within u, ap length v, length-drop i s))
 
 pub ruleset passing = (passing-start, passing-end, passing-last, passing-more, passing-fits)
+
+-- WHERE LINES START
+
+starts-over : (n at : ℕ) (s : List ℕ) → n ≤ 0 → startsFrom n at s ≡ []
+unfolding startsFrom
+starts-over zero at s h = refl
+starts-over (suc n) at s h = absurd (omega arith)
+
+starts-next : (n at : ℕ) (s : List ℕ) → 0 < n → startsFrom n at s ≡ at ∷ startsFrom (n - 1) (at + lineLength (drop at s)) s
+unfolding startsFrom
+starts-next zero at s h = absurd (omega arith)
+starts-next (suc n) at s h = let z : suc n - 1 ≡ n = omega arith in rw z
+
+-- the starts that stand and those that are still to be told give the whole
+pub record Starting (s from : List ℕ) (at l : ℕ) (starts : List ℕ) : Type 0 where
+  pub within : at ≤ length s
+  pub long : length starts ≡ length from
+  pub whole : take l starts ++ startsFrom (length from - l) at s ≡ take 1 from ++ startsFrom (length from - 1) 0 s
+
+pub starting-start : (s from : List ℕ) → Starting s from 0 1 from
+starting-start s from = record { within = omega arith; long = refl; whole = refl }
+
+module _ (s from : List ℕ) (at l : ℕ) (starts : List ℕ) (inv : Starting s from at l starts) where
+  pub starting-long : length starts ≡ length from
+  starting-long = inv .long
+
+  pub starting-end : length starts ≤ l → starts ≡ take 1 from ++ startsFrom (length from - 1) 0 s
+  starting-end h =
+      sym (append-nil starts)
+      ∙ ap₂ _++_ (sym (take-all l starts h)) (sym (starts-over (length from - l) at s (omega (arith, inv .long))))
+      ∙ inv .whole
+
+  module _ (h : l < length starts) (u : List ℕ) (rest : u ≡ drop at s) (n : ℕ) (line : n ≡ lineLength u) where
+    pub starting-fits : length s < 2 ^ 64 → (k : ℕ) → k ≡ at + n → Fits w64 k
+    starting-fits g k z = rw z (omega (arith, inv .within, line-within u, ap length rest, length-drop at s))
+
+    pub starting-more : (k : ℕ) → k ≡ at + n → (j : ℕ) → j ≡ l + 1 → Starting s from k j (set starts l at)
+    starting-more k z j y =
+        let e : k ≡ at + lineLength (drop at s) = z ∙ ap (λ m. at + m) (line ∙ ap lineLength rest) in
+        let some : 0 < length from - l = omega (arith, inv .long) in
+        let less : length from - j ≡ length from - l - 1 = omega arith in
+        let front : take j (set starts l at) ≡ take l starts ++ (at ∷ []) = rw (y, add-one) (take-suc-set starts l at h) in
+        record {
+          within = omega (arith, inv .within, line-within u, ap length rest, length-drop at s);
+          long = length-set starts l at ∙ inv .long;
+          whole = rw (front, less, e, append-snoc) (rw (starts-next (length from - l) at s some) at (inv .whole));
+        }
+
+pub ruleset starting = (starting-start, starting-long, starting-end, starting-fits, starting-more)

@@ -1,11 +1,15 @@
-// Where the papers end in the desk program's input.
+// Where the papers end in a program's input, and where the lines of a paper start.
 ghost use mathlib.Core.Path.{_≡_};
 ghost use mathlib.Core.Bool.{true, _&&_};
+ghost use mathlib.Core.List.{_++_};
+ghost use Prim.Native.Nat.{_-_};
+ghost use lib.ListN.{length, take};
 ghost use Rattle.meaning.specs.Text.{text, begins};
 ghost use Rattle.meaning.specs.Desk.{lineLength, paperLength};
+ghost use Rattle.split.specs.Lines.{startsFrom};
 
 // How long the first line is, with its LF.
-fn line_len(s: &[u8]) -> usize
+pub fn line_len(s: &[u8]) -> usize
     ensures { λ r. ⌜ r ≡ lineLength (now (s .entry)) ⌝ }
 {
     let mut i = 0;
@@ -42,4 +46,17 @@ pub fn paper_len(s: &[u8]) -> usize
         i += 1;
     }
     i
+}
+
+// Where the lines of a text start: each line has the place of its number, from 1. There is no line 0, and place 0 stays as it is.
+pub fn line_starts(s: &[u8], starts: &mut [usize])
+    ensures { λ r. ⌜ now (starts .exit) ≡ take 1 (now (starts .entry)) ++ startsFrom (length (now (starts .entry)) - 1) 0 (now (s .entry)) ⌝ }
+{
+    let mut at = 0;
+    let mut l = 1;
+    while l < starts.len() {
+        starts[l] = at;
+        at += line_len(text::rest(s, at));
+        l += 1;
+    }
 }

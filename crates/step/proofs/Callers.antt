@@ -122,7 +122,7 @@ module _ (ts : List T.Test) (rs : List Test) (ws : List ℕ) (s : Standing ws ts
   start-at (suc i) h = plan-end rs (padded 64 0 o) (length o) o taken few i (omega arith)
 
   -- the rows at a place are those of its node
-  rows-at : (i : ℕ) → i < length o → rowsAt (planFor rs o) i ≡ rowsFor rs (getD o i 0)
+  pub rows-at : (i : ℕ) → i < length o → rowsAt (planFor rs o) i ≡ rowsFor rs (getD o i 0)
   unfolding rowsAt
   rows-at i h =
       let p = planFor rs o in
@@ -158,7 +158,7 @@ abbrev pub AllFit : Sheet → Type 0
 AllFit sh = (r : Rule) → In r (sh .rules) → (c : Cond) → r .condition ≡ some c → Fits c
 
 -- so is that of every test
-tests-fit : (sh : Sheet) → AllFit sh → FitAll (tests sh)
+pub tests-fit : (sh : Sheet) → AllFit sh → FitAll (tests sh)
 unfolding tests ruleTests testOf implied
 tests-fit sh fits t i =
     ⊎-elim (rule-fits (ruleLine (sh .heads)) (sh .rules) fits) (implied-fits 0 (sh .heads .stages)) (in-cases t (ruleTests (sh .heads) (ruleLine (sh .heads)) (sh .rules)) (implied 0 (sh .heads .stages)) i)

@@ -13,7 +13,7 @@ use Rattle.trigger.specs.declared.Trigger.the-variants.{Event, Rise, Fall}
 use Rattle.tests.specs.declared.Test.{Test}
 use Rattle.test.specs.declared.Moment.{Moment}
 use Rattle.test.specs.Met as met
-use Rattle.test.specs.Met.{roseIn, fellIn, triggerMet, homeMet, conditionMet, testMet}
+use Rattle.test.specs.Met.{roseIn, fellIn, triggerMet, homeMet, conditionValue, conditionMet, testMet, conditionStop, stopNumber}
 
 -- MARKS
 
@@ -56,13 +56,17 @@ module _ (event : ℕ) (before after : List ℕ) (t : Trigger) where
   trigger-fall y b z e = rw z e
 
 module _ (words values after : List ℕ) (from to : ℕ) where
-  pub condition-none : from ≡ to → true ≡ conditionMet words values after from to
-  unfolding conditionMet
+  pub condition-none : from ≡ to → 2 ≡ conditionValue words values after from to
+  unfolding conditionValue
   condition-none h = rw (eq-eqb from to h)
 
-  pub condition-is : (from ≡ to → ⊥) → (f t v : ℕ) → f ≡ from → t ≡ to → v ≡ verdictOf values after (take (t - f) (drop f words)) → eqb v 2 ≡ conditionMet words values after from to
+  pub condition-some : (from ≡ to → ⊥) → (f t v : ℕ) → f ≡ from → t ≡ to → v ≡ verdictOf values after (take (t - f) (drop f words)) → v ≡ conditionValue words values after from to
+  unfolding conditionValue
+  condition-some h f t v p q e = rw (ne-eqb from to h, ← p, ← q, ← e)
+
+  pub condition-is : (v : ℕ) → v ≡ conditionValue words values after from to → eqb v 2 ≡ conditionMet words values after from to
   unfolding conditionMet
-  condition-is h f t v p q e = rw (ne-eqb from to h, ← p, ← q, ← e)
+  condition-is v e = ap (λ n. eqb n 2) e
 
 pub home-some : (after : List ℕ) (h : ℕ) (b : Bool) → (h ≡ 0 → ⊥) → b ≡ met.yes after (h - 1) → b ≡ homeMet after h
 home-some after zero b n e = absurd (n refl)
@@ -86,4 +90,36 @@ module _ (words : List ℕ) (event : ℕ) (values before after : List ℕ) (t : 
       unfolding testMet
       test-asked u c e = rw (← fires, not-false a q, ← housed, not-false b u) e
 
-pub ruleset testing = (trigger-event, trigger-rise, trigger-fall, condition-none, condition-is, home-some, test-quiet, test-closed, test-asked)
+pub ruleset testing = (trigger-event, trigger-rise, trigger-fall, condition-none, condition-some, condition-is, home-some, test-quiet, test-closed, test-asked)
+
+-- WHAT STOPPED IT
+
+module _ (words : List ℕ) (event : ℕ) (values before after : List ℕ) (t : Test) (a : Bool) (fires : a ≡ triggerMet event before after (t .trigger)) where
+  abbrev stop : ℕ
+  stop = stopNumber words (record { event = event; values = values; before = before }) after t
+
+  pub stop-trigger : not a ≡ true → 3 ≡ stop
+  unfolding stopNumber
+  stop-trigger q = rw (← fires, not-true a q)
+
+  module _ (q : not a ≡ false) (b : Bool) (housed : b ≡ homeMet after (t .home)) where
+    pub stop-home : not b ≡ true → 4 ≡ stop
+    unfolding stopNumber
+    stop-home u = rw (← fires, not-false a q, ← housed, not-true b u)
+
+    module _ (u : not b ≡ false) (v : ℕ) (is : v ≡ conditionValue words values after (t .from) (t .to)) where
+      -- what is left is the condition
+      asked : stop ≡ conditionStop v
+      unfolding stopNumber
+      asked = rw (← fires, not-false a q, ← housed, not-false b u, ← is)
+
+      pub stop-none : v ≡ 2 → 0 ≡ stop
+      stop-none h = sym (asked ∙ ap conditionStop h)
+
+      pub stop-unknown : v ≡ 1 → 6 ≡ stop
+      stop-unknown h = sym (asked ∙ ap conditionStop h)
+
+      pub stop-false : (v ≡ 2 → ⊥) → (v ≡ 1 → ⊥) → 5 ≡ stop
+      stop-false h g = sym (asked ∙ rw (ne-eqb v 2 h, ne-eqb v 1 g))
+
+pub ruleset stopping = (stop-trigger, stop-home, stop-none, stop-unknown, stop-false)

@@ -28,7 +28,8 @@ code-value missing = refl
 code-value (number-at v) = refl
 
 module _ (bs : List Bool) (x : ℕ) where
-  mark-at : getD (marked bs) x 0 ≡ markCode (is bs x)
+  -- its mark
+  pub mark-at : getD (marked bs) x 0 ≡ markCode (is bs x)
   unfolding marked
   mark-at = padded-at 32 0 (map markCode bs) x ∙ List·getD-map markCode bs x false
 

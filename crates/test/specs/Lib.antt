@@ -1,4 +1,4 @@
 -- A test on marks:
 pub mod Met
--- and what it reads of a moment:
+-- and what it reads of a moment, and tells:
 pub mod Codes

@@ -1,6 +1,6 @@
 -- A test on the tables of a sheet and the marks of the statuses before and after, 0 for no and 2 for yes.
 use Prim.Native.Nat.{ℕ, zero, suc, _-_}
-use mathlib.Core.Bool.{Bool, true, not, _&&_, _||_}
+use mathlib.Core.Bool.{Bool, true, not, _&&_, cond}
 use mathlib.Core.List.{List}
 use lib.Dec.{eqb}
 use lib.ListN.{getD, take, drop}
@@ -34,10 +34,25 @@ abbrev pub homeMet : List ℕ → ℕ → Bool
 homeMet after zero = true
 homeMet after (suc p) = yes after p
 
+-- how the condition stands, 0 for false, 1 for unknown and 2 for true; none is true
+unfoldable pub conditionValue : List ℕ → List ℕ → List ℕ → ℕ → ℕ → ℕ
+conditionValue words values after from to = cond (eqb from to) 2 (verdictOf values after (take (to - from) (drop from words)))
+
 -- no condition, or a true one
 unfoldable pub conditionMet : List ℕ → List ℕ → List ℕ → ℕ → ℕ → Bool
-conditionMet words values after from to = eqb from to || eqb (verdictOf values after (take (to - from) (drop from words))) 2
+conditionMet words values after from to = eqb (conditionValue words values after from to) 2
 
 -- a test is met, but for its before test
 unfoldable pub testMet : List ℕ → Moment → List ℕ → Test → Bool
 testMet words m after t = triggerMet (m .event) (m .before) after (t .trigger) && homeMet after (t .home) && conditionMet words (m .values) after (t .from) (t .to)
+
+-- what a condition stops a test with: nothing where it is true, otherwise 6 where it is unknown and 5 where it is false
+abbrev pub conditionStop : ℕ → ℕ
+conditionStop v = cond (eqb v 2) 0 (cond (eqb v 1) 6 5)
+
+-- the first thing that stopped a test: 3 for its trigger, 4 for its home, then its condition; 0 where nothing did
+unfoldable pub stopNumber : List ℕ → Moment → List ℕ → Test → ℕ
+stopNumber words m after t =
+    cond (triggerMet (m .event) (m .before) after (t .trigger))
+    (cond (homeMet after (t .home)) (conditionStop (conditionValue words (m .values) after (t .from) (t .to))) 4)
+    3

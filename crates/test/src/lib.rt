@@ -2,7 +2,7 @@
 ghost use mathlib.Core.Path.{_≡_};
 ghost use Prim.Native.Nat.{_<_};
 ghost use lib.ListN.{getD};
-ghost use Rattle.test.specs.Met.{roseIn, fellIn, triggerMet, homeMet, conditionMet, testMet};
+ghost use Rattle.test.specs.Met.{roseIn, fellIn, triggerMet, homeMet, conditionValue, conditionMet, testMet, stopNumber};
 ghost use Rattle.test.specs.Met as met;
 use tests::Test;
 use trigger::Trigger;
@@ -86,6 +86,22 @@ pub fn home_met(after: &[u8; 32], home: u8) -> bool
     yes(after, home - 1)
 }
 
+// How the condition stands: 0 false, 1 unknown, 2 true. None is true.
+pub fn condition_value(
+    words: &[u64],
+    from: u16,
+    to: u16,
+    values: &[u64; 16],
+    after: &[u8; 32],
+) -> u8
+    ensures { λ r. ⌜ r ≡ conditionValue (now (words .entry)) (now (values .entry)) (now (after .entry)) from to ⌝ }
+{
+    if from == to {
+        return 2;
+    }
+    verdict::verdict(words, place(from), place(to), values, after)
+}
+
 // No condition, or one that is true: unknown is not enough.
 pub fn condition_met(
     words: &[u64],
@@ -96,10 +112,7 @@ pub fn condition_met(
 ) -> bool
     ensures { λ r. ⌜ r ≡ conditionMet (now (words .entry)) (now (values .entry)) (now (after .entry)) from to ⌝ }
 {
-    if from == to {
-        return true;
-    }
-    verdict::verdict(words, place(from), place(to), values, after) == 2
+    condition_value(words, from, to, values, after) == 2
 }
 
 // The test is met, but for its before test, which is the node's.
@@ -121,4 +134,32 @@ pub fn test_met(
         return false;
     }
     condition_met(words, t.from, t.to, values, after)
+}
+
+// The first thing that stopped the test, but for its before test: 3 its trigger, 4 its home, 5 a false condition, 6 an unknown one; 0 where nothing did.
+pub fn stopped(
+    t: Test,
+    words: &[u64],
+    event: usize,
+    values: &[u64; 16],
+    before: &[u8; 32],
+    after: &[u8; 32],
+) -> u8
+    ensures { λ r. ⌜ r ≡ stopNumber (now (words .entry)) (record { event = event; values = now (values .entry); before = now (before .entry) }) (now (after .entry)) t ⌝ }
+{
+    let trigger = t.trigger;
+    if !trigger_met(trigger, event, before, after) {
+        return 3;
+    }
+    if !home_met(after, t.home) {
+        return 4;
+    }
+    let value = condition_value(words, t.from, t.to, values, after);
+    if value == 2 {
+        return 0;
+    }
+    if value == 1 {
+        return 6;
+    }
+    5
 }

@@ -8,7 +8,7 @@ use mathlib.Core.Option.{Option, none, some}
 use native.Mathlib.Omega.{arith}
 use native.Mathlib.Nat.{add-zero}
 use lib.Dec.{eqb}
-use lib.ListN.{length, length-append, length-map, getD, take, drop}
+use lib.ListN.{length, length-map, getD, take, drop}
 use lib.Seq.{take-at, drop-at, drop-drop}
 use Rattle.meaning.specs.Text.{In, keep, joined}
 use Rattle.meaning.specs.Sheet.{Heads, Sheet, Status, Sign, plus, minus, Rule, statuses, stageOver}
@@ -16,6 +16,7 @@ use Rattle.meaning.specs.Tests as M
 use Rattle.meaning.specs.Tests.{up, down, node, homeOf, testOf, ruleTests, ruleLine, closing, implied, tests}
 use Rattle.meaning.specs.Dependency.{testsFor}
 use Rattle.theory.specs.Formed.{Well}
+use Rattle.theory.specs.Tested as Tested
 use Rattle.tables.specs.Heads.{padded, underCode}
 use Rattle.tables.proofs.Padded.{padded-at, padded-take}
 use Rattle.tables.proofs.Tables.{under-over}
@@ -180,25 +181,6 @@ rows-stand sh ws rest e =
     let us = implied 0 (sh .heads .stages) in
     standing-append ws ts (testRows 0 ts) us (map (testRow 0) us) (rules-stand ws (sh .heads) (ruleLine (sh .heads)) 0 (sh .rules) rest e) (closings-stand ws 0 (sh .heads .stages))
 
--- HOW MANY TESTS
-
-rules-count : (hd : Heads) (l : ℕ) (rs : List Rule) → length (ruleTests hd l rs) ≡ length rs
-unfolding ruleTests
-rules-count hd l [] = refl
-rules-count hd l (r ∷ rs) = ap suc (rules-count hd (suc l) rs)
-
-implied-few : (x : ℕ) (ss : List Status) → length (implied x ss) ≤ length ss
-unfolding implied
-implied-few x [] = omega arith
-implied-few x (s ∷ ss) = go (s .under) (implied-few (suc x) ss)
-  where
-    go : (u : Option ℕ) → length (implied (suc x) ss) ≤ length ss → length (closing x u ++ implied (suc x) ss) ≤ suc (length ss)
-    go none h = omega arith
-    go (some p) h = omega arith
-
 -- no more than a table holds
 pub tests-few : (sh : Sheet) → Well sh → length (tests sh) ≤ 160
-unfolding tests statuses
-tests-few sh w =
-    let ts = ruleTests (sh .heads) (ruleLine (sh .heads)) (sh .rules) in
-    omega (arith, length-append ts (implied 0 (sh .heads .stages)), rules-count (sh .heads) (ruleLine (sh .heads)) (sh .rules), implied-few 0 (sh .heads .stages), w .rules-few, w .heads .statuses-few, length-append (sh .heads .stages) (sh .heads .miles))
+tests-few sh w = omega (arith, Tested.tests-few sh w)

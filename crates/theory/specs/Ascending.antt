@@ -1,7 +1,7 @@
 -- Strictly ascending lists: a list put in order has the same members and goes up, and two that go up with the same members are one.
 use Prim.Native.Nat.{ℕ, zero, suc, _<_}
 use mathlib.Core.Path.{_≡_, refl, sym, ap₂, subst}
-use mathlib.Core.List.{List, [], _∷_}
+use mathlib.Core.List.{List, [], _∷_, _++_}
 use mathlib.Core.Logic.{_⊎_, inl, inr, ⊎-elim, _↔_}
 use native.Mathlib.Omega.{arith}
 use native.Mathlib.Decide.{ℕ-discrete, decLt}
@@ -9,12 +9,17 @@ use lib.ListN.{length, getD}
 use borrow.Author.Tests.{eq-eqb, ne-eqb, lt-ltb, le-ltb}
 use Rattle.meaning.specs.Text.{In}
 use Rattle.meaning.specs.Outlook.{insert, ascending}
-use Rattle.theory.specs.Lists.{at-place, placed-at}
+use Rattle.theory.specs.Lists.{in-cases, at-place, placed-at}
 
 -- each member below all behind it
 abbrev pub Up : List ℕ → Type 0
 Up [] = Unit {0}
 Up (x ∷ l) = ((y : ℕ) → In y l → x < y) × Up l
+
+-- one list behind another, all of whose members are higher
+pub both-up : (xs ys : List ℕ) → Up xs → Up ys → ((a b : ℕ) → In a xs → In b ys → a < b) → Up (xs ++ ys)
+both-up [] ys u v h = v
+both-up (x ∷ xs) ys u v h = (λ y i. ⊎-elim (u .0 y) (h x y (inl refl)) (in-cases y xs ys i), both-up xs ys (u .1) v (λ a b i j. h a b (inr i) j))
 
 -- the three cases of an insertion
 pub data Placing (v x : ℕ) : Type 0 where

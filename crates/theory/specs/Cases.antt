@@ -1,14 +1,14 @@
--- A case that was taken: its step, its next card and its outlook, from what is known of its papers.
+-- A case that was taken: its step, its next card, its outlook and its reasons, from what is known of its papers.
 use Prim.Native.Nat.{ℕ, suc, _*_, _≤_, _<_}
 use mathlib.Core.Path.{_≡_, refl, sym, _∙_, ap}
 use mathlib.Core.Bool.{Bool, true, false, false≢true}
-use mathlib.Core.List.{List, [], _∷_}
+use mathlib.Core.List.{List, [], _∷_, map}
 use mathlib.Core.Option.{Option, none, some}
 use mathlib.Core.Logic.{_↔_}
 use native.Mathlib.Omega.{arith}
-use lib.ListN.{length, getD}
+use lib.ListN.{length, length-map, getD}
 use borrow.Author.Tests.{lt-ltb, le-ltb, ltb-true}
-use Rattle.meaning.specs.Text.{joined}
+use Rattle.meaning.specs.Text.{In, joined}
 use Rattle.meaning.specs.Kleene.{Kleene, true₃, false₃, unknown, known₃, isTrue}
 use Rattle.meaning.specs.Refusal.{Answer, taken, refused, CYCLE, MANY}
 use Rattle.meaning.specs.Limits.{sheetBytes, partLimit}
@@ -23,7 +23,8 @@ use Rattle.meaning.specs.Tests.{nodes, Test, tests}
 use Rattle.meaning.specs.Dependency.{predecessors, testingOrder}
 use Rattle.meaning.specs.Step.{Moment, moment, putIn, fulfilled, holds, Meets, leadsTo, pattern}
 use Rattle.meaning.specs.Outlook.{IsOutlook, filledWith, insert, ascending, parts, many, tried, choices, patterns}
-use Rattle.meaning.specs.Doors.{accepted, readSheet, Case, next, outlook}
+use Rattle.meaning.specs.Why.{Reason, linesFor, changed, IsWhy}
+use Rattle.meaning.specs.Doors.{accepted, readSheet, Case, next, outlook, reasonsIn, why}
 use Rattle.theory.specs.Ascending.{up-from, up-equal}
 use Rattle.theory.specs.Orders.{cycle-exactly}
 use Rattle.theory.specs.Next.{leads-meets, one-side, any-order}
@@ -35,6 +36,7 @@ use Rattle.theory.specs.Sheets.{sheet-well}
 use Rattle.theory.specs.Rules.{holds-parts}
 use Rattle.theory.specs.Tested.{stages-few, sheet-inside, sheet-guards}
 use Rattle.theory.specs.Papers.{Papers}
+use Rattle.theory.specs.Whys.{ReadBack, read-back, about, reasons-right, reasons-in, reasons-few, one-reason, each-line}
 use Rattle.theory.specs.Accepted as Again
 
 -- the moment of a case, and the side to which its testing order leads
@@ -114,6 +116,32 @@ module _ (k : Case) (p : Papers k) where
   -- the list that is computed is the outlook
   pub case-list : IsOutlook (tests (k .sheet)) (at k) (patterns (tests (k .sheet)) (k .order) (at k))
   case-list = is-outlook (tests (k .sheet)) (at k) inside-marked (k .order) (order-marked (k .order) (p .order))
+
+  -- the reasons that are computed are those that are meant,
+  pub case-why : IsWhy (k .sheet) (at k) (after k) (reasonsIn k)
+  unfolding reasonsIn
+  case-why = reasons-right (k .sheet) (at k) (after k) (p .well) case-meets
+
+  -- one for each status that changed,
+  pub case-one : (x : ℕ) → x < length (at k .before) → changed (k .sheet) (at k) (after k) x ≡ true → length (about x (reasonsIn k)) ≡ 1
+  unfolding reasonsIn
+  case-one = one-reason (k .sheet) (at k) (after k) case-meets
+
+  -- for every other one for each line of the change it could have made, and no more,
+  pub case-lines : (x : ℕ) → x < length (at k .before) → changed (k .sheet) (at k) (after k) x ≡ false
+      → map (λ (r : Reason). r .line) (about x (reasonsIn k)) ≡ map (λ (t : Test). t .line) (linesFor (k .sheet) (at k) (after k) x)
+  unfolding reasonsIn
+  case-lines = each-line (k .sheet) (at k) (after k) case-meets
+
+  -- never more than rule lines and child stages together,
+  pub case-few : length (why k) ≤ 159
+  unfolding reasonsIn why
+  case-few = rw length-map (reasons-few (k .sheet) (at k) (after k) case-meets (p .well))
+
+  -- and each number can be read back
+  pub case-back : (r : Reason) → In r (reasonsIn k) → ReadBack (length (statuses (k .sheet .heads))) r
+  unfolding reasonsIn moment
+  case-back r i = let (h, l) = reasons-in (k .sheet) (at k) (after k) (p .well) case-meets r i in read-back (length (statuses (k .sheet .heads))) r (omega (arith, p .marked)) l
 
 -- MANY, or the list
 abbrev told : Case → Bool → Answer (List ℕ)

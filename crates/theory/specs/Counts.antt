@@ -1,13 +1,13 @@
 -- Counts in the line `end=`: a count below 100 is read back as it is written, and whatever is read as that count is so written.
-use Prim.Native.Nat.{ℕ, suc, _+_, _-_, _*_, _/_, _%_, _≤_, _<_}
+use Prim.Native.Nat.{ℕ, zero, suc, _+_, _-_, _*_, _/_, _%_, _≤_, _<_}
 use mathlib.Core.Path.{_≡_, refl, sym, _∙_, ap, ap₂}
 use mathlib.Core.Bool.{Bool, true, false, cond}
 use mathlib.Core.List.{List, [], _∷_, _++_, append-nil}
 use mathlib.Core.Option.{Option, none, some, Option·none-ne-some, Option·some-injective}
 use native.Mathlib.Omega.{arith}
 use native.Mathlib.Decide.{decLt}
-use lib.ListN.{length}
-use lib.Dec.{eqb}
+use lib.ListN.{length, length-append}
+use lib.Dec.{eqb, ltb}
 use borrow.Author.Tests.{le-leb, eqb-true, eqb-false, eq-eqb, ne-eqb, lt-ltb, le-ltb}
 use Rattle.meaning.specs.Text.{text, run, begins}
 use Rattle.meaning.specs.Refusal.{LINE}
@@ -148,3 +148,17 @@ decimal-short n h = go (decLt n 10)
     go : Dec (n < 10) → length (decimal n) ≤ 2
     go (yes y) = rw (decimal-one n y) (omega arith)
     go (no m) = rw (decimal-two n (omega arith) h) (omega arith)
+
+-- and any number ten at most
+digits-few : (k n : ℕ) → length (writtenIn k n) ≤ k
+unfolding writtenIn
+digits-few zero n = omega arith
+digits-few (suc k) n = go (ltb n 10) (digits-few k (n / 10))
+  where
+    go : (b : Bool) → length (writtenIn k (n / 10)) ≤ k → length {A = ℕ} (elim b [ true ↦ (48 + n) ∷ [] | false ↦ writtenIn k (n / 10) ++ ((48 + n % 10) ∷ []) ]) ≤ suc k
+    go true h = omega arith
+    go false h = omega (arith, length-append (writtenIn k (n / 10)) ((48 + n % 10) ∷ []))
+
+pub decimal-few : (n : ℕ) → length (decimal n) ≤ 10
+unfolding decimal
+decimal-few n = digits-few 10 n

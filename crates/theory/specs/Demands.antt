@@ -1,8 +1,8 @@
--- What document 01 demands, for all texts: each demand in its own words, each proved by a citation.
+-- What document 01 demands and what the requests behind it ask, for all texts: each in its own words, each proved by a citation.
 use Prim.Native.Nat.{ℕ, _*_, _≤_, _<_}
 use mathlib.Core.Path.{_≡_, refl, sym, _∙_, subst}
-use mathlib.Core.Bool.{Bool, true}
-use mathlib.Core.List.{List, [], _∷_}
+use mathlib.Core.Bool.{Bool, true, false}
+use mathlib.Core.List.{List, [], _∷_, map}
 use mathlib.Core.Option.{some}
 use mathlib.Core.Logic.{_↔_}
 use lib.ListN.{length, getD}
@@ -20,12 +20,14 @@ use Rattle.meaning.specs.Tests.{nodes, Test, tests}
 use Rattle.meaning.specs.Dependency.{predecessors}
 use Rattle.meaning.specs.Step.{Moment, putIn, Meets, holds, leadsTo, pattern}
 use Rattle.meaning.specs.Outlook.{IsOutlook, filledWith, parts, patterns}
-use Rattle.meaning.specs.Doors.{Accepted, readSheet, Case, readCase, next, outlook, stepAnswer, outlookAnswer, replied, written, stepReply, stepSpace, outlookReply, outlookSpace}
+use Rattle.meaning.specs.Why.{Reason, coded, linesFor, changed, IsWhy}
+use Rattle.meaning.specs.Doors.{Accepted, readSheet, Case, readCase, next, outlook, reasonsIn, why, stepAnswer, outlookAnswer, whyAnswer, replied, written, stepReply, stepSpace, outlookReply, outlookSpace}
 use Rattle.theory.specs.Next.{one-next}
 use Rattle.theory.specs.Readers.{taken-same}
 use Rattle.theory.specs.Papers.{sheet-holds, case-holds}
-use Rattle.theory.specs.Cases.{at, after, told-exactly, holds-true, case-meets, case-only, case-every, case-again, case-list, filled-meets, filled-only, outlook-told, outlook-listed, outlook-same, Known, outlook-known}
-use Rattle.theory.specs.Numbers.{step-tells, outlook-tells}
+use Rattle.theory.specs.Whys.{about, why-same}
+use Rattle.theory.specs.Cases.{at, after, told-exactly, holds-true, case-meets, case-only, case-every, case-again, case-list, filled-meets, filled-only, outlook-told, outlook-listed, outlook-same, Known, outlook-known, case-why, case-one, case-lines, case-few}
+use Rattle.theory.specs.Numbers.{step-tells, outlook-tells, why-tells}
 use Rattle.theory.specs.Requests.{step-papers, outlook-papers}
 
 -- DEMAND 1. "It takes any sheet, card and event line and comes to an end": the definitions are functions of any lists of bytes.
@@ -118,3 +120,28 @@ filling-one s c e k q vs =
     let p = case-holds s c e k q in
     let meets = filled-meets k p vs in
     (leadsTo (tests (k .sheet)) (filledWith (at k) vs) (k .order), meets, λ b h. filled-only k p vs b _ h meets)
+
+-- REQUEST T-01. "For each status that changed, .. the first rule line that held, or, where no line held, the parent whose closing closed it. For each that did not, every rule line for the change it could have made, with the first thing that stopped it"
+
+pub why-right : (s c e : List ℕ) (k : Case) → readCase s c e ≡ taken k → IsWhy (k .sheet) (at k) (after k) (reasonsIn k)
+why-right s c e k q = case-why k (case-holds s c e k q)
+
+-- and it is the only such list
+pub why-one : (sh : Sheet) (m : Moment) (side : List Bool) (l h : List Reason) → IsWhy sh m side l → IsWhy sh m side h → map coded l ≡ map coded h
+why-one = why-same
+
+-- of a status that changed one reason, of another one for each of its lines
+pub why-changed : (s c e : List ℕ) (k : Case) → readCase s c e ≡ taken k → (x : ℕ) → x < length (at k .before) → changed (k .sheet) (at k) (after k) x ≡ true → length (about x (reasonsIn k)) ≡ 1
+why-changed s c e k q = case-one k (case-holds s c e k q)
+
+pub why-lines : (s c e : List ℕ) (k : Case) → readCase s c e ≡ taken k → (x : ℕ) → x < length (at k .before) → changed (k .sheet) (at k) (after k) x ≡ false
+    → map (λ (r : Reason). r .line) (about x (reasonsIn k)) ≡ map (λ (t : Test). t .line) (linesFor (k .sheet) (at k) (after k) x)
+why-lines s c e k q = case-lines k (case-holds s c e k q)
+
+-- "There are never more than rule lines and child stages together (128 + 31)"
+pub why-most : (s c e : List ℕ) (k : Case) → readCase s c e ≡ taken k → length (why k) ≤ 159
+why-most s c e k q = case-few k (case-holds s c e k q)
+
+-- "Refusals: as for a step"
+pub why-numbers : (s c e : List ℕ) (room n p l : ℕ) → whyAnswer s c e room ≡ refused n p l → (1 ≤ n) × (n ≤ 9) × (p ≤ 3)
+why-numbers s c e room n p l q = why-tells s c e room .told n p l q

@@ -31,6 +31,11 @@ abbrev pub UnderIn : ℕ → Option ℕ → Type 0
 UnderIn k none = Unit {0}
 UnderIn k (some p) = p < k
 
+-- stages from place x on, each parent among those before its stage
+abbrev pub Behind : ℕ → List Status → Type 0
+Behind x [] = Unit {0}
+Behind x (s ∷ ss) = UnderIn x (s .under) × Behind (suc x) ss
+
 -- a stage or a mile, over k stages
 pub record StatusIn (k : ℕ) (s : Status) : Type 0 where
   pub name : Good (s .name)
@@ -62,6 +67,7 @@ pub record WellHeads (hd : Heads) : Type 0 where
   pub events : Each (EventIn (length (hd .fields))) (hd .events)
   pub stages : Each (StatusIn (length (hd .stages))) (hd .stages)
   pub miles : Each (StatusIn (length (hd .stages))) (hd .miles)
+  pub parents : Behind 0 (hd .stages)
   -- "Names of fields, events, stages and miles all differ"
   pub names : Once (hd .fields ++ eventNames (hd .events) ++ statusNames (hd .stages) ++ statusNames (hd .miles))
   pub fields-few : length (hd .fields) ≤ fieldLimit
@@ -99,6 +105,11 @@ under-up j k (some p) h g = omega arith
 -- a status over more stages
 pub status-up : (j k : ℕ) (s : Status) → j ≤ k → StatusIn j s → StatusIn k s
 status-up j k s h g = record { name = g .name; under = under-up j k (s .under) h (g .under) }
+
+-- a stage more, with its parent among those before it
+pub behind-more : (x n : ℕ) (ss : List Status) (s : Status) → n ≡ x + length ss → Behind x ss → UnderIn n (s .under) → Behind x (ss ++ (s ∷ []))
+behind-more x n [] s e h g = let z : n ≡ x = omega arith in (rw z at g, tt)
+behind-more x n (t ∷ ss) s e h g = (h .0, behind-more (suc x) n ss s (omega arith) (h .1) g)
 
 -- ROWS
 

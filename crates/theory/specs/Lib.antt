@@ -56,8 +56,15 @@ pub mod Accepted
 pub mod Written
 pub mod EventText
 pub mod Rows
+-- The reasons: what stops a line, what is told of one status, and all of them:
+pub mod Stops
+pub mod Sums
+pub mod Reasons
+pub mod Whys
 -- A case that was taken:
 pub mod Cases
+-- What the clerk reads out:
+pub mod Readout
 -- What is refused, and with which number; when each request is taken:
 pub mod Numbers
 pub mod Requests

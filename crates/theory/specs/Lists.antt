@@ -24,6 +24,11 @@ module _ {A : Type 0} where
   in-right a [] ys h = h
   in-right a (x ∷ xs) ys h = inr (in-right a xs ys h)
 
+  -- a list with a member is not empty
+  pub in-some : (a : A) (xs : List A) → In a xs → 1 ≤ length xs
+  in-some a [] h = absurd h
+  in-some a (x ∷ xs) h = omega arith
+
   pub in-cases : (a : A) (xs ys : List A) → In a (xs ++ ys) → In a xs ⊎ In a ys
   in-cases a [] ys h = inr h
   in-cases a (x ∷ xs) ys (inl e) = inl (inl e)
@@ -120,6 +125,27 @@ module _ {A : Type 0} (p : A → Bool) where
       go true e (inr k) ih = (inr (ih k .0), ih k .1)
       go false e k ih = (inr (ih k .0), ih k .1)
 
+  -- of two lists, where all pass, and where none does
+  pub keep-append : (xs ys : List A) → keep p (xs ++ ys) ≡ keep p xs ++ keep p ys
+  unfolding keep
+  keep-append [] ys = refl
+  keep-append (x ∷ xs) ys = go (p x) (keep-append xs ys)
+    where
+      go : (b : Bool) → keep p (xs ++ ys) ≡ keep p xs ++ keep p ys
+          → _≡_ {A = List A} (elim b [ true ↦ x ∷ keep p (xs ++ ys) | false ↦ keep p (xs ++ ys) ]) ((elim b [ true ↦ x ∷ keep p xs | false ↦ keep p xs ]) ++ keep p ys)
+      go true e = ap (λ l. x ∷ l) e
+      go false e = e
+
+  pub keep-all : (xs : List A) → ((a : A) → In a xs → p a ≡ true) → keep p xs ≡ xs
+  unfolding keep
+  keep-all [] h = refl
+  keep-all (x ∷ xs) h = rw (h x (inl refl), keep) (ap (λ l. x ∷ l) (keep-all xs (λ a i. h a (inr i))))
+
+  pub keep-none : (xs : List A) → ((a : A) → In a xs → p a ≡ false) → keep p xs ≡ []
+  unfolding keep
+  keep-none [] h = refl
+  keep-none (x ∷ xs) h = rw (h x (inl refl), keep) (keep-none xs (λ a i. h a (inr i)))
+
   pub in-any : (a : A) (xs : List A) → In a xs → p a ≡ true → any p xs ≡ true
   unfolding any
   in-any a [] h t = absurd h
@@ -138,6 +164,12 @@ module _ {A : Type 0} (p : A → Bool) where
       go : (b : Bool) → p x ≡ b → b || any p xs ≡ true → (any p xs ≡ true → (a : A) × In a xs × (p a ≡ true)) → (a : A) × In a (x ∷ xs) × (p a ≡ true)
       go true e t ih = (x, inl refl, e)
       go false e t ih = let (a, k, q) = ih t in (a, inr k, q)
+
+-- what is kept of lists joined
+pub keep-joined : {A B : Type 0} (p : B → Bool) (f : A → List B) (xs : List A) → keep p (joined f xs) ≡ joined (λ x. keep p (f x)) xs
+unfolding keep joined
+keep-joined p f [] = refl
+keep-joined p f (x ∷ xs) = keep-append p (f x) (joined f xs) ∙ ap (λ l. keep p (f x) ++ l) (keep-joined p f xs)
 
 -- tests that agree on the members
 pub any-same : {A : Type 0} (p q : A → Bool) (xs : List A) → ((a : A) → In a xs → p a ≡ q a) → any p xs ≡ any q xs
@@ -273,6 +305,25 @@ in-from (suc n) i k h g = go (ℕ-discrete k i) (in-from n (suc i) k)
     go : Dec (k ≡ i) → (suc i ≤ k → k < suc i + n → In k (from (suc i) n)) → In k (i ∷ from (suc i) n)
     go (yes e) ih = inl e
     go (no ne) ih = inr (ih (omega arith) (omega arith))
+
+-- nothing is joined where no member gives anything
+pub joined-none : {A B : Type 0} (f : A → List B) (xs : List A) → ((x : A) → In x xs → f x ≡ []) → joined f xs ≡ []
+unfolding joined
+joined-none f [] h = refl
+joined-none f (x ∷ xs) h = rw (h x (inl refl)) (joined-none f xs (λ y i. h y (inr i)))
+
+-- and of the numbers from i on what one gives, where no other gives anything
+pub joined-only : {B : Type 0} (f : ℕ → List B) (x n i : ℕ) → i ≤ x → x < i + n → ((y : ℕ) → In y (from i n) → (y ≡ x → ⊥) → f y ≡ []) → joined f (from i n) ≡ f x
+unfolding joined from
+joined-only f x zero i a b h = absurd (omega arith)
+joined-only f x (suc n) i a b h = go (ℕ-discrete i x) (joined-only f x n (suc i))
+  where
+    rest : i ≡ x → (y : ℕ) → In y (from (suc i) n) → f y ≡ []
+    rest e y k = let (l, g) = from-in n (suc i) y k in h y (inr k) (λ q. omega arith)
+
+    go : Dec (i ≡ x) → (suc i ≤ x → x < suc i + n → ((y : ℕ) → In y (from (suc i) n) → (y ≡ x → ⊥) → f y ≡ []) → joined f (from (suc i) n) ≡ f x) → f i ++ joined f (from (suc i) n) ≡ f x
+    go (yes e) ih = ap (λ l. f i ++ l) (joined-none f (from (suc i) n) (rest e)) ∙ append-nil (f i) ∙ ap f e
+    go (no q) ih = ap (λ l. l ++ joined f (from (suc i) n)) (h i (inl refl) q) ∙ ih (omega arith) (omega arith) (λ y k. h y (inr k))
 
 -- a test that no number below n fails where p holds
 pub every : (n : ℕ) (p q : ℕ → Bool) → any (λ x. p x && not (q x)) (from 0 n) ≡ false → (x : ℕ) → x < n → p x ≡ true → q x ≡ true

@@ -1,4 +1,4 @@
--- The numbers of refusals: each paper has its own, a step is refused with 1 to 9 and never with MANY, an outlook with 1 to 10.
+-- The numbers of refusals: each paper has its own, a step and the reasons are refused with 1 to 9 and never with MANY, an outlook with 1 to 10.
 use Prim.Native.Nat.{ℕ, _+_, _≤_}
 use mathlib.Core.Path.{_≡_, refl, _∙_, ap, subst₂}
 use mathlib.Core.Bool.{Bool, true, false, cond, false≢true}
@@ -18,7 +18,7 @@ use Rattle.meaning.specs.Tests.{tests}
 use Rattle.meaning.specs.Dependency.{testingOrder}
 use Rattle.meaning.specs.Step.{moment}
 use Rattle.meaning.specs.Outlook.{many, patterns}
-use Rattle.meaning.specs.Doors.{Accepted, accepted, readSheet, Case, readTold, readCase, next, outlook, fitting, stepAnswer, outlookAnswer}
+use Rattle.meaning.specs.Doors.{Accepted, accepted, readSheet, Case, readTold, readCase, next, outlook, why, fitting, stepAnswer, outlookAnswer, whyAnswer}
 use Rattle.theory.specs.Built.{Built}
 use Rattle.theory.specs.Faults.{Faulty, built-faulty}
 use Rattle.theory.specs.BuiltPapers.{sheet-built, card-built, happening-built}
@@ -168,7 +168,7 @@ fitting-tells {A} {P} out room a h = go (leb (length (out a)) room)
     go true = taken-tells
     go false = refused-tells h
 
--- what a step and an outlook tell beside the papers' refusals names no paper
+-- what a request tells beside the papers' refusals names no paper
 pub step-own : (room : ℕ) (k : Case) → Tells (fitting (λ n. n .card) room (next k)) (λ n p. p ≡ 0)
 step-own room k = fitting-tells (λ n. n .card) room (next k) refl
 
@@ -180,12 +180,22 @@ outlook-own room k = on-tells (outlook k) (go (many (tests (k .sheet)) (moment (
     go true = refused-tells refl
     go false = taken-tells
 
+pub why-own : (room : ℕ) (k : Case) → Tells (fitting (λ l. l) room (why k)) (λ n p. p ≡ 0)
+why-own room k = fitting-tells (λ l. l) room (why k) refl
+
 -- a step "never gives MANY"
 pub step-tells : (s c e : List ℕ) (room : ℕ) → Tells (stepAnswer s c e room) (λ n p. (1 ≤ n) × (n ≤ 9) × (p ≤ 3))
 unfolding stepAnswer
 step-tells s c e room =
     on-tells (readCase s c e) (tells-weaker (λ n p h. omega (arith, h .0, h .1, h .3)) (case-tells s c e)) λ k.
     fitting-tells (λ n. n .card) room (next k) (omega arith)
+
+-- "Refusals: as for a step"
+pub why-tells : (s c e : List ℕ) (room : ℕ) → Tells (whyAnswer s c e room) (λ n p. (1 ≤ n) × (n ≤ 9) × (p ≤ 3))
+unfolding whyAnswer
+why-tells s c e room =
+    on-tells (readCase s c e) (tells-weaker (λ n p h. omega (arith, h .0, h .1, h .3)) (case-tells s c e)) λ k.
+    fitting-tells (λ l. l) room (why k) (omega arith)
 
 -- an outlook may
 pub outlook-tells : (s c e : List ℕ) (room : ℕ) → Tells (outlookAnswer s c e room) (λ n p. (1 ≤ n) × (n ≤ 10) × (p ≤ 3))

@@ -18,13 +18,13 @@ use Rattle.meaning.specs.Graph.{Cycle}
 use Rattle.meaning.specs.Tests.{Test, tests}
 use Rattle.meaning.specs.Dependency.{predecessors}
 use Rattle.meaning.specs.Outlook.{IsOutlook, parts, patterns, cuts, isCut}
-use Rattle.meaning.specs.Doors.{Case, readCase, Next, next, outlook, fitting, stepAnswer, outlookAnswer}
+use Rattle.meaning.specs.Doors.{Case, readCase, Next, next, outlook, why, fitting, stepAnswer, outlookAnswer, whyAnswer}
 use Rattle.theory.specs.Ascending.{ascending-up, up-places}
 use Rattle.theory.specs.Cuts.{cuts-exactly}
 use Rattle.theory.specs.Readers.{refused-taken, taken-same}
 use Rattle.theory.specs.Papers.{on-taken, case-holds}
 use Rattle.theory.specs.Cases.{at, told-exactly, case-list, outlook-told, outlook-few, outlook-same}
-use Rattle.theory.specs.Numbers.{sheet-names, step-own, outlook-own}
+use Rattle.theory.specs.Numbers.{sheet-names, step-own, outlook-own, why-own}
 
 -- ROOM: "next card or list longer than the space lent"
 module _ {A : Type 0} (out : A → List ℕ) (room : ℕ) (a : A) where
@@ -131,6 +131,37 @@ module _ (s c e : List ℕ) (room : ℕ) where
   pub outlook-circle : (sh : Sheet) → paper 1 sheetBytes sheet s ≡ taken sh → (outlookAnswer s c e room ≡ refused CYCLE 1 0) ↔ Cycle (predecessors (tests sh))
   unfolding outlookAnswer
   outlook-circle sh q = Iff·trans (sheet-names (λ k. onTaken (outlook k) (λ l. fitting (λ l. l) room l)) (outlook-own room) s c e CYCLE 0) (told-exactly s sh q)
+
+  -- THE REASONS
+
+  pub why-papers : (n p l : ℕ) → readCase s c e ≡ refused n p l → whyAnswer s c e room ≡ refused n p l
+  unfolding whyAnswer
+  why-papers n p l q = rw q
+
+  -- papers that are taken and a list that fits: the reasons are given
+  pub why-taken : (k : Case) → readCase s c e ≡ taken k → length (why k) ≤ room → whyAnswer s c e room ≡ taken (why k)
+  unfolding whyAnswer
+  why-taken k q h = rw q (fitting-taken (λ l. l) room (why k) h)
+
+  -- ROOM "exactly when there are more reasons than places"
+  pub why-fits : (k : Case) → readCase s c e ≡ taken k → (whyAnswer s c e room ≡ refused ROOM 0 0) ↔ (room < length (why k))
+  unfolding whyAnswer
+  why-fits k q = rw q (fitting-room (λ l. l) room (why k))
+
+  -- a list that is taken is that of a case
+  pub why-of : (l : List ℕ) → whyAnswer s c e room ≡ taken l → (k : Case) × (readCase s c e ≡ taken k) × (l ≡ why k)
+  unfolding whyAnswer
+  why-of l q =
+      let (k, read, fits) = on-taken (readCase s c e) (λ k. fitting (λ l. l) room (why k)) l q in
+      (k, read, fitting-same (λ l. l) room (why k) l fits)
+
+  pub why-circle : (sh : Sheet) → paper 1 sheetBytes sheet s ≡ taken sh → (whyAnswer s c e room ≡ refused CYCLE 1 0) ↔ Cycle (predecessors (tests sh))
+  unfolding whyAnswer
+  why-circle sh q = Iff·trans (sheet-names (λ k. fitting (λ l. l) room (why k)) (why-own room) s c e CYCLE 0) (told-exactly s sh q)
+
+-- "Refusals: as for a step": what the papers are refused with, both tell
+pub why-refusal : (s c e : List ℕ) (room other n p l : ℕ) → readCase s c e ≡ refused n p l → (whyAnswer s c e room ≡ refused n p l) × (stepAnswer s c e other ≡ refused n p l)
+why-refusal s c e room other n p l q = (why-papers s c e room n p l q, step-papers s c e other n p l q)
 
 -- the cuts that `parts` counts are the document's, each once
 pub cuts-right : (ts : List Test) (f : ℕ) → ((v : ℕ) → In v (cuts ts f) ↔ (isCut ts f v ≡ true)) × ((i j : ℕ) → i < j → j < length (cuts ts f) → getD (cuts ts f) i 0 < getD (cuts ts f) j 0)

@@ -14,7 +14,7 @@ use Rattle.meaning.specs.ReadSheet.{section, fieldRow, eventRow, stageRow, mile
 use Rattle.theory.specs.Lists.{Once, once-more}
 use Rattle.theory.specs.Readers.{Ensures, give-ensures, bind-ensures, any-ensures, ensures-weaker, section-ensures}
 use Rattle.theory.specs.Names.{Good, name-good, newName-new}
-use Rattle.theory.specs.Formed.{Each, StatusIn, EventIn, RuleIn, WellHeads, Well, each-more, once-row, status-up, event-in, status-in, rule-in}
+use Rattle.theory.specs.Formed.{Each, Behind, StatusIn, EventIn, RuleIn, WellHeads, Well, each-more, once-row, status-up, behind-more, event-in, status-in, rule-in}
 
 -- SECTION BY SECTION
 
@@ -31,9 +31,9 @@ fields-in = section-ensures (λ ns. Each Good ns × Once ns) (text "field=") fie
 abbrev Events : List Name → List Event → Type 0
 Events fields es = Each (EventIn (length fields)) es × Once (fields ++ eventNames es)
 
--- stages, with names that differ from those in use
+-- stages, with names that differ from those in use, each behind its parent
 abbrev Stages : List Name → List Status → Type 0
-Stages used ss = Each (StatusIn (length ss)) ss × Once (used ++ statusNames ss)
+Stages used ss = Each (StatusIn (length ss)) ss × Once (used ++ statusNames ss) × Behind 0 ss
 
 -- miles over these stages, likewise
 abbrev Miles : List Name → List Status → List Status → Type 0
@@ -50,8 +50,12 @@ events-in fields d = section-ensures (Events fields) (text "event=") (eventRow f
 stages-in : (used : List Name) → Once used → Ensures (section (text "stage=") (stageRow used) statusLimit []) (λ ss. Stages used ss × (length ss ≤ statusLimit))
 unfolding statusNames stageRow
 stages-in used d = section-ensures (Stages used) (text "stage=") (stageRow used)
-    (λ so q. ensures-weaker (λ s g. (λ x i. status-up (length so) (length (so ++ (s ∷ []))) x (omega (arith, length-append so (s ∷ []))) (each-more (StatusIn (length so)) so s (q .0) (g .0) x i), once-row (λ (s : Status). s .name) used so s (q .1) (g .1))) (status-in (used ++ statusNames so) so))
-    statusLimit [] (λ s i. absurd i, rw (append-nil used) d)
+    (λ so q. ensures-weaker (λ s g. (
+      λ x i. status-up (length so) (length (so ++ (s ∷ []))) x (omega (arith, length-append so (s ∷ []))) (each-more (StatusIn (length so)) so s (q .0) (g .0) x i),
+      once-row (λ (s : Status). s .name) used so s (q .1) (g .1),
+      behind-more 0 (length so) so s (omega arith) (q .2) (g .0 .under),
+    )) (status-in (used ++ statusNames so) so))
+    statusLimit [] (λ s i. absurd i, rw (append-nil used) d, tt)
 
 -- the miles
 miles-in : (used : List Name) (stages : List Status) (room : ℕ) → Once (used ++ statusNames stages)
@@ -97,6 +101,7 @@ heads-well =
       events = he .0 .0;
       stages = hs .0 .0;
       miles = hl .0 .0;
+      parents = hs .0 .2;
       names = hl .0 .1;
       fields-few = hf .1;
       events-few = he .1;

@@ -1,5 +1,5 @@
--- The tests of a well formed sheet of document 01: they name statuses of the sheet, guard its stages, and have the leaves of its rules.
-use Prim.Native.Nat.{ℕ, zero, suc, _+_, _*_, _≤_, _<_}
+-- The tests of a well formed sheet of document 01: they name statuses of the sheet, guard its stages, have the leaves of its rules, and are few.
+use Prim.Native.Nat.{ℕ, zero, suc, _+_, _-_, _*_, _≤_, _<_}
 use mathlib.Core.Path.{_≡_, refl, sym, _∙_, ap, subst}
 use mathlib.Core.List.{List, [], _∷_, _++_, append-nil, append-assoc}
 use mathlib.Core.Option.{Option, none, some}
@@ -12,14 +12,14 @@ use Rattle.meaning.specs.Graph.{Inside}
 use Rattle.meaning.specs.Tests.{up, down, nodes, node, Test, homeOf, testOf, ruleTests, ruleLine, closes, closing, implied, tests, leavesIn}
 use Rattle.meaning.specs.Dependency.{predecessors}
 use Rattle.theory.specs.Lists.{in-cases, in-left, in-right}
-use Rattle.theory.specs.Formed.{Each, UnderIn, StatusIn, RuleIn, Well, under-up}
+use Rattle.theory.specs.Formed.{Each, UnderIn, Behind, StatusIn, RuleIn, Well, under-up}
 use Rattle.theory.specs.Edges.{TestIn, edges-inside}
 use Rattle.theory.specs.Shelter.{nowhere, Guards}
 
 -- A TEST IS THAT OF A RULE, OR OF A CHILD STAGE
 
 -- the tests of rules
-rule-test : (hd : Heads) (rs : List Rule) (l : ℕ) (t : Test) → In t (ruleTests hd l rs) → (r : Rule) × (k : ℕ) × In r rs × (t ≡ testOf hd k r)
+pub rule-test : (hd : Heads) (rs : List Rule) (l : ℕ) (t : Test) → In t (ruleTests hd l rs) → (r : Rule) × (k : ℕ) × In r rs × (t ≡ testOf hd k r)
 unfolding ruleTests
 rule-test hd [] l t i = absurd i
 rule-test hd (r ∷ rs) l t (inl e) = (r, l, inl refl, e)
@@ -44,7 +44,7 @@ implied-test (s ∷ ss) x t h = ⊎-elim (at (s .under) refl) (later (implied-te
     later f j = let (y, i, p, e, h, u, q) = f j in (y, suc i, p, omega arith, omega arith, u, q)
 
 -- of all stages: the place is the stage's own
-child-test : (ss : List Status) (t : Test) → In t (implied 0 ss) → (x p : ℕ) × (x < length ss) × (getD ss x nowhere .under ≡ some p) × (t ≡ closes x p)
+pub child-test : (ss : List Status) (t : Test) → In t (implied 0 ss) → (x p : ℕ) × (x < length ss) × (getD ss x nowhere .under ≡ some p) × (t ≡ closes x p)
 child-test ss t h =
     let (y, i, p, e, l, u, q) = implied-test ss 0 t h in
     let z : i ≡ y = omega arith in
@@ -76,7 +76,7 @@ module _ (sh : Sheet) (well : Well sh) where
   under-of k (s ∷ ss) h (suc x) = under-of k ss (λ t i. h t (inr i)) x
 
   -- a parent or home is a status
-  over-in : (x : ℕ) → UnderIn (length (statuses hd)) (stageOver hd x)
+  pub over-in : (x : ℕ) → UnderIn (length (statuses hd)) (stageOver hd x)
   unfolding stageOver statuses
   over-in x = under-up (length (hd .stages)) (length (hd .stages ++ hd .miles)) (stageOver hd x) (unfold statuses in stages-few)
       (under-of (length (hd .stages)) (hd .stages ++ hd .miles) (λ s i. ⊎-elim (well .heads .stages s) (well .heads .miles s) (in-cases s (hd .stages) (hd .miles) i)) x)
@@ -162,3 +162,42 @@ rules-leaves hd l (r ∷ rs) more = ap (λ w. leavesOf (r .condition) ++ w) (rul
 pub leaves-same : (sh : Sheet) → leavesIn (tests sh) ≡ leaves (sh .rules)
 unfolding leavesIn tests
 leaves-same sh = rules-leaves (sh .heads) (ruleLine (sh .heads)) (sh .rules) (implied 0 (sh .heads .stages)) ∙ ap (λ w. leaves (sh .rules) ++ w) (implied-bare 0 (sh .heads .stages)) ∙ append-nil (leaves (sh .rules))
+
+-- HOW MANY THERE ARE
+
+rules-count : (hd : Heads) (l : ℕ) (rs : List Rule) → length (ruleTests hd l rs) ≡ length rs
+unfolding ruleTests
+rules-count hd l [] = refl
+rules-count hd l (r ∷ rs) = ap suc (rules-count hd (suc l) rs)
+
+implied-few : (x : ℕ) (ss : List Status) → length (implied x ss) ≤ length ss
+unfolding implied
+implied-few x [] = omega arith
+implied-few x (s ∷ ss) = go (s .under) (implied-few (suc x) ss)
+  where
+    go : (u : Option ℕ) → length (implied (suc x) ss) ≤ length ss → length (closing x u ++ implied (suc x) ss) ≤ suc (length ss)
+    go none h = omega arith
+    go (some p) h = omega arith
+
+-- the first stage has no parent
+children-few : (ss : List Status) → Behind 0 ss → length (implied 0 ss) ≤ length ss - 1
+unfolding implied
+children-few [] h = omega arith
+children-few (s ∷ ss) h = go (s .under) (h .0) (implied-few 1 ss)
+  where
+    go : (u : Option ℕ) → UnderIn 0 u → length (implied 1 ss) ≤ length ss → length (closing 0 u ++ implied 1 ss) ≤ suc (length ss) - 1
+    go none h g = omega arith
+    go (some p) h g = absurd (omega arith)
+
+-- "rule lines and child stages together (128 + 31)"
+pub tests-few : (sh : Sheet) → Well sh → length (tests sh) ≤ 159
+unfolding tests statuses
+tests-few sh w = omega (
+  arith,
+  length-append (ruleTests (sh .heads) (ruleLine (sh .heads)) (sh .rules)) (implied 0 (sh .heads .stages)),
+  rules-count (sh .heads) (ruleLine (sh .heads)) (sh .rules),
+  children-few (sh .heads .stages) (w .heads .parents),
+  w .rules-few,
+  w .heads .statuses-few,
+  length-append (sh .heads .stages) (sh .heads .miles),
+)

@@ -1,6 +1,7 @@
-//! `bench`: reading with a step and reading with an outlook, library and second implementation in one run.
+//! `bench`: reading with a step, with an outlook and with the reasons, library and second implementation in one run.
 //!
-//! Times are the best of several runs, taken in turn; the ratio is the library's time over the second's.
+//! Times are the best of several runs, taken in turn; the ratio is the library's time over the second's. A table of its
+//! own has the library's `why` over its step.
 
 use std::{
     hint::black_box,
@@ -15,6 +16,8 @@ use second::{
 };
 
 const RUNS: usize = 31;
+/// The most reasons.
+const WHY_OUT: usize = 159;
 /// How long one run of one side takes, about.
 const RUN: Duration = Duration::from_millis(4);
 
@@ -23,17 +26,35 @@ fn main() {
 }
 
 fn bench() {
+    sheets();
+    growth();
+}
+
+/// Sheets from small to full.
+fn sheets() {
     let small = Papers { sheet: SHEET_P.into(), card: CARD_Q.into(), event: b"looked income=?\n".to_vec() };
     heading("sheets");
     step("P", &small);
     outlook("P", &small);
+    why("P", &small);
     let middle = Shape::MIDDLE.papers();
     step("middle", &middle);
     outlook("middle, 32 combinations", &middle);
-    step("at the limits", &Shape::FULL.papers());
+    why("middle", &middle);
+    let full = Shape::FULL.papers();
+    step("at the limits", &full);
     outlook("at the limits, 1 combination", &Shape { missing: 0, ..Shape::FULL }.papers());
-    outlook("at the limits, 4,096", &Shape::FULL.papers());
+    outlook("at the limits, 4,096", &full);
+    why("at the limits", &full);
 
+    titled("why over the step, both the library's", ["why us", "step us"]);
+    for (name, papers) in [("P", &small), ("middle", &middle), ("at the limits", &full)] {
+        why_over_step(name, papers);
+    }
+}
+
+/// How the cost grows.
+fn growth() {
     heading("order in which 4,096 patterns come up, few rules");
     for listing in Listing::ALL {
         let few = Shape { rules: 24, statuses: 24, leaves: 24, listing, bytes: None, ..Shape::FULL };
@@ -64,7 +85,11 @@ fn bench() {
 }
 
 fn heading(text: &str) {
-    say(&format!("\n{text}\n{:<44} {:>12} {:>12} {:>7}\n", "", "library us", "second us", "ratio"));
+    titled(text, ["library us", "second us"]);
+}
+
+fn titled(text: &str, [first, second]: [&str; 2]) {
+    say(&format!("\n{text}\n{:<44} {first:>12} {second:>12} {:>7}\n", "", "ratio"));
 }
 
 fn step(name: &str, papers: &Papers) {
@@ -95,16 +120,46 @@ fn outlook(name: &str, papers: &Papers) {
     compare("outlook", name, library, second);
 }
 
-fn compare(request: &str, name: &str, mut library: impl FnMut(), mut second: impl FnMut()) {
-    let library_times = calls_in_a_run(&mut library);
+fn why(name: &str, papers: &Papers) {
+    let mut space = reasons_space(name, papers);
+    let library = || {
+        black_box(reambodkin::why(black_box(&papers.sheet), &papers.card, &papers.event, &mut space));
+    };
+    let second = || {
+        black_box(second::why(black_box(&papers.sheet), &papers.card, &papers.event, WHY_OUT)).ok();
+    };
+    compare("why", name, library, second);
+}
+
+fn why_over_step(name: &str, papers: &Papers) {
+    let mut reasons = reasons_space(name, papers);
+    let mut card = vec![0; 1_024];
+    let why = || {
+        black_box(reambodkin::why(black_box(&papers.sheet), &papers.card, &papers.event, &mut reasons));
+    };
+    let step = || {
+        black_box(reambodkin::step(black_box(&papers.sheet), &papers.card, &papers.event, &mut card));
+    };
+    compare("why", name, why, step);
+}
+
+/// Space for all reasons of papers that are taken.
+fn reasons_space(name: &str, papers: &Papers) -> Vec<u32> {
+    let mut space = vec![0; WHY_OUT];
+    assert_eq!(reambodkin::why(&papers.sheet, &papers.card, &papers.event, &mut space).number, 0, "{name} is taken");
+    space
+}
+
+fn compare(request: &str, name: &str, mut first: impl FnMut(), mut second: impl FnMut()) {
+    let first_times = calls_in_a_run(&mut first);
     let second_times = calls_in_a_run(&mut second);
-    let (mut best_library, mut best_second) = (f64::INFINITY, f64::INFINITY);
+    let (mut best_first, mut best_second) = (f64::INFINITY, f64::INFINITY);
     for _ in 0..RUNS {
-        best_library = best_library.min(run(&mut library, library_times));
+        best_first = best_first.min(run(&mut first, first_times));
         best_second = best_second.min(run(&mut second, second_times));
     }
-    let ratio = best_library / best_second;
-    say(&format!("{request:<9} {name:<34} {best_library:>12.2} {best_second:>12.2} {ratio:>7.2}\n"));
+    let ratio = best_first / best_second;
+    say(&format!("{request:<9} {name:<34} {best_first:>12.2} {best_second:>12.2} {ratio:>7.2}\n"));
 }
 
 fn calls_in_a_run(call: &mut impl FnMut()) -> u32 {

@@ -5,7 +5,7 @@ use std::process::ExitCode;
 
 use second::{
     Fault, Refusal,
-    examples::corner_examples,
+    examples::{corner_examples, why_examples},
     generate::{generate, random_of},
     papers::Papers,
     statistic::{Request, Statistic},
@@ -34,15 +34,19 @@ fn compare(seed: u64, count: u64) -> ExitCode {
 fn compare_all(seed: u64, count: u64) -> Result<(), String> {
     let mut comparison = Comparison { statistic: Statistic::default(), calls: 0 };
     #[cfg(feature = "desk")]
-    for example in second::examples::desk_examples() {
-        comparison.desk(&example.input, example.output.as_bytes()).map_err(|difference| {
-            format!("example {}: {difference}\n{}", example.name, example.input.escape_ascii())
-        })?;
+    for (program, examples) in
+        [(DESK, second::examples::desk_examples()), (CLERK_WHY, second::examples::clerk_examples())]
+    {
+        for example in examples {
+            comparison.printed(&program, &example.input, example.output.as_bytes()).map_err(|difference| {
+                format!("example {}: {difference}\n{}", example.name, example.input.escape_ascii())
+            })?;
+        }
     }
-    for example in corner_examples() {
-        comparison
-            .papers(&example.papers)
-            .map_err(|difference| format!("example {}: {difference}\n{}", example.name, example.papers))?;
+    let corners = corner_examples().into_iter().map(|example| (example.name, example.papers));
+    let whys = why_examples().into_iter().map(|example| (example.name.to_string(), example.papers));
+    for (name, papers) in corners.chain(whys) {
+        comparison.papers(&papers).map_err(|difference| format!("example {name}: {difference}\n{papers}"))?;
     }
     // The examples are no part of the statistic.
     comparison.statistic = Statistic::default();
@@ -58,7 +62,7 @@ fn compare_all(seed: u64, count: u64) -> Result<(), String> {
     let (table, all_met) = comparison.statistic.table();
     say(&table);
     if !all_met && count >= ENOUGH_CASES {
-        return Err("a number of a paper was never met".into());
+        return Err("a number of a paper or a kind of reason was never met".into());
     }
     say(&format!("{count} cases from seed {seed}, {} calls, no difference\n", comparison.calls));
     Ok(())
@@ -68,6 +72,31 @@ struct Comparison {
     statistic: Statistic,
     calls: u64,
 }
+
+/// Sheet, card, event, the space lent for a list and the places of the reply.
+type IntoList = fn(&[u8], &[u8], &[u8], &mut [u32], &mut [u64]) -> u64;
+
+/// A request that gives a list, as the library has it.
+struct ListDoor {
+    request: Request,
+    into: IntoList,
+}
+
+const OUTLOOK: ListDoor = ListDoor { request: Request::Outlook, into: reambodkin::outlook_into };
+const WHY: ListDoor = ListDoor { request: Request::Why, into: reambodkin::why_into };
+
+/// What a program prints, as the library has it, and the least space for it.
+#[cfg(feature = "desk")]
+struct Printer {
+    request: Request,
+    print: fn(&[u8], &mut [u8]) -> usize,
+    least: usize,
+}
+
+#[cfg(feature = "desk")]
+const DESK: Printer = Printer { request: Request::Desk, print: reambodkin::desk, least: 81_920 };
+#[cfg(feature = "desk")]
+const CLERK_WHY: Printer = Printer { request: Request::ClerkWhy, print: reambodkin::clerk_why, least: 49_152 };
 
 /// What stands in lent space before a call.
 fn pattern(index: usize) -> u32 {
@@ -98,10 +127,15 @@ impl Comparison {
             self.step(papers, room)?;
         }
         for room in rooms(answers.outlook.as_ref().ok().map(Vec::len), 64) {
-            self.outlook(papers, &answers.outlook, room)?;
+            self.list(&OUTLOOK, papers, &answers.outlook, room)?;
+        }
+        for room in rooms(answers.why.as_ref().ok().map(Vec::len), 160) {
+            self.list(&WHY, papers, &answers.why, room)?;
         }
         #[cfg(feature = "desk")]
-        self.desk(&papers.joined(), &answers.desk)?;
+        for (program, output) in [(DESK, &answers.desk), (CLERK_WHY, &answers.clerk_why)] {
+            self.printed(&program, &papers.joined(), output)?;
+        }
         Ok(())
     }
 
@@ -129,25 +163,31 @@ impl Comparison {
         }
     }
 
-    fn outlook(&mut self, papers: &Papers, whole: &Result<Vec<u32>, Refusal>, room: usize) -> Result<(), String> {
+    /// A list in lent space; `whole` is the second's answer with room for everything.
+    fn list(
+        &mut self,
+        door: &ListDoor,
+        papers: &Papers,
+        whole: &Result<Vec<u32>, Refusal>,
+        room: usize,
+    ) -> Result<(), String> {
+        let name = door.request.name();
         let mut expected_space: Vec<u32> = (0..room + GUARD).map(pattern).collect();
         let mut space = expected_space.clone();
         let expected = match whole {
-            Ok(list) if list.len() > room => self.refusal(Request::Outlook, Refusal::of_request(Fault::Room)),
+            Ok(list) if list.len() > room => self.refusal(door.request, Refusal::of_request(Fault::Room)),
             Ok(list) => {
                 expected_space[..list.len()].copy_from_slice(list);
                 [0, 0, 0, list.len() as u64, 0]
             }
-            Err(refusal) => self.refusal(Request::Outlook, *refusal),
+            Err(refusal) => self.refusal(door.request, *refusal),
         };
-        self.told(expected, |reply| {
-            reambodkin::outlook_into(&papers.sheet, &papers.card, &papers.event, &mut space[..room], reply)
-        })
-        .map_err(|difference| format!("outlook with {room} entries lent, {difference}"))?;
+        self.told(expected, |reply| (door.into)(&papers.sheet, &papers.card, &papers.event, &mut space[..room], reply))
+            .map_err(|difference| format!("{name} with {room} entries lent, {difference}"))?;
         match difference(&space, &expected_space) {
             None => Ok(()),
             Some(at) => Err(format!(
-                "outlook with {room} entries lent, entry {at}: library {}, second {}",
+                "{name} with {room} entries lent, entry {at}: library {}, second {}",
                 space[at], expected_space[at]
             )),
         }
@@ -178,25 +218,35 @@ impl Comparison {
         Ok(())
     }
 
+    /// What a program prints, in the least space for it and in more; now and then in too little, which must stay as it
+    /// is.
     #[cfg(feature = "desk")]
-    fn desk(&mut self, input: &[u8], expected: &[u8]) -> Result<(), String> {
-        /// More than the desk can print.
-        const OUTPUT: usize = 96 << 10;
+    fn printed(&mut self, program: &Printer, input: &[u8], expected: &[u8]) -> Result<(), String> {
+        /// More than a program can print.
+        const SPACE: usize = 96 << 10;
         static BEFORE: std::sync::LazyLock<Vec<u8>> =
-            std::sync::LazyLock::new(|| (0..OUTPUT).map(byte_pattern).collect());
-        let mut space = BEFORE.clone();
-        let length = reambodkin::desk(input, &mut space);
+            std::sync::LazyLock::new(|| (0..SPACE).map(byte_pattern).collect());
+        let name = program.request.name();
         self.calls += 1;
-        if length > OUTPUT || space[..length] != *expected {
+        let mut space = BEFORE.clone();
+        if self.calls.is_multiple_of(8) {
+            let length = (program.print)(input, &mut space[..program.least - 1]);
+            if length != 0 || space != *BEFORE {
+                return Err(format!("{name} in too little space: {length} bytes told, or the space is touched"));
+            }
+        }
+        let lent = if self.calls.is_multiple_of(2) { program.least } else { SPACE };
+        let length = (program.print)(input, &mut space[..lent]);
+        if length > lent || space[..length] != *expected {
             return Err(format!(
-                "desk, {length} bytes:\n{}\nsecond, {} bytes:\n{}",
-                space[..length.min(OUTPUT)].escape_ascii(),
+                "{name}, {length} bytes:\n{}\nsecond, {} bytes:\n{}",
+                space[..length.min(lent)].escape_ascii(),
                 expected.len(),
                 expected.escape_ascii()
             ));
         }
         if space[length..] != BEFORE[length..] {
-            return Err("desk: the space behind its output is touched".into());
+            return Err(format!("{name}: the space behind its output is touched"));
         }
         Ok(())
     }

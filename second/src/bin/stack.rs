@@ -1,4 +1,4 @@
-//! `stack`: how much stack the library's step and outlook need on the papers at the limits.
+//! `stack`: how much stack the library's step, outlook and why need on the papers at the limits.
 //!
 //! Each request is made in a process of its own, on a thread whose stack is made smaller until it overflows; what the
 //! thread needs without a request is taken off.
@@ -7,14 +7,15 @@ use std::process::{Command, ExitCode, Stdio};
 
 use second::{limits::Shape, papers::Papers, survey::say};
 
-const REQUESTS: [&str; 3] = ["nothing", "step", "outlook"];
+const REQUESTS: [&str; 4] = ["nothing", "step", "outlook", "why"];
 
 fn main() -> ExitCode {
     let arguments: Vec<String> = std::env::args().skip(1).collect();
     match &arguments[..] {
         [] => {
-            let [nothing, step, outlook] = REQUESTS.map(needed);
-            say(&format!("step {} KB, outlook {} KB\n", step - nothing, outlook - nothing));
+            let [nothing, needs @ ..] = REQUESTS.map(needed);
+            let [step, outlook, why] = needs.map(|need| need - nothing);
+            say(&format!("step {step} KB, outlook {outlook} KB, why {why} KB\n"));
             ExitCode::SUCCESS
         }
         [request, kilobytes] => {
@@ -34,6 +35,7 @@ fn ask(request: &str, papers: &Papers, mut card: Vec<u8>, mut list: Vec<u32>) ->
     match request {
         "step" => reambodkin::step(&papers.sheet, &papers.card, &papers.event, &mut card).number,
         "outlook" => reambodkin::outlook(&papers.sheet, &papers.card, &papers.event, &mut list).number,
+        "why" => reambodkin::why(&papers.sheet, &papers.card, &papers.event, &mut list).number,
         _ => 0,
     }
 }

@@ -25,6 +25,9 @@ fn survey(seed: u64, count: u64) -> ExitCode {
         if answers.outlook.is_ok() {
             statistic.refused(Request::Outlook, Refusal::of_request(Fault::Room));
         }
+        if answers.why.is_ok_and(|reasons| !reasons.is_empty()) {
+            statistic.refused(Request::Why, Refusal::of_request(Fault::Room));
+        }
         if let Err(difference) = check_by_book(&papers, &mut random_of(!seed, index)) {
             say(&format!("seed {seed}, case {index}: {difference}\n{papers}\n"));
             return ExitCode::FAILURE;
@@ -33,7 +36,7 @@ fn survey(seed: u64, count: u64) -> ExitCode {
     let (table, all_met) = statistic.table();
     say(&table);
     if !all_met && count >= ENOUGH_CASES {
-        say("a number of a paper was never met\n");
+        say("a number of a paper or a kind of reason was never met\n");
         return ExitCode::FAILURE;
     }
     say(&format!("{count} cases from seed {seed}, all as in the book\n"));

@@ -6,7 +6,8 @@ use lib.ListN.{length, drop}
 use Rattle.meaning.specs.Text.{joined}
 use Rattle.space.proofs.Laws.{Left}
 use Rattle.print.specs.Lines.{patternText}
-use Rattle.output.proofs.Lines.{listing}
+use Rattle.print.proofs.Laws.{listing}
+use Rattle.output.proofs.Lines.{patterns-room}
 use Rattle.output.proofs.put_patterns.Statement.{statement}
 use Rattle.output.proofs.put_patterns.Tie as tie
 
@@ -17,31 +18,31 @@ abbrev μ-loop : tie.MeasureT-loop
 μ-loop out₀ at patterns to₀ i₀ out to i = length patterns - i
 
 loop-holds : tie.Need-loop-holds Inv-loop μ-loop
-loop-holds c = search (needs, listing)
+loop-holds c = search (needs, listing, patterns-room)
 
 mul-put-pattern : tie.Need-mul-put-pattern Inv-loop μ-loop
-mul-put-pattern c = search (needs, listing)
+mul-put-pattern c = search (needs, listing, patterns-room)
 
 shared-slice-read-put-pattern : tie.Need-shared-slice-read-put-pattern Inv-loop μ-loop
-shared-slice-read-put-pattern c = search (needs, listing)
+shared-slice-read-put-pattern c = search (needs, listing, patterns-room)
 
 put-pattern-requires : tie.Need-put-pattern-requires Inv-loop μ-loop
-put-pattern-requires c κs = search (needs, listing)
+put-pattern-requires c κs = search (needs, listing, patterns-room)
 
 add-i : tie.Need-add-i Inv-loop μ-loop
-add-i c = search (needs, listing)
+add-i c = search (needs, listing, patterns-room)
 
 loop-less : tie.Need-loop-less Inv-loop μ-loop
-loop-less c = search (needs, listing)
+loop-less c = search (needs, listing, patterns-room)
 
 loop-again : tie.Need-loop-again Inv-loop μ-loop
-loop-again c = search (needs, listing)
+loop-again c = search (needs, listing, patterns-room)
 
 same-length : tie.Need-same-length Inv-loop μ-loop
-same-length c = search (needs, listing)
+same-length c = search (needs, listing, patterns-room)
 
 returns : tie.Need-returns Inv-loop μ-loop
-returns c = search (needs, listing)
+returns c = search (needs, listing, patterns-room)
 
 pub put-patterns-spec : {M : Type 1} → statement M
 put-patterns-spec =

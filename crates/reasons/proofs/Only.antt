@@ -1,0 +1,11 @@
+-- No second answer fits the contract, and no other content of the lent space.
+use denote.Ref.{now}
+use Rattle.theory.specs.Determined.{Determines, Settles, only}
+use Rattle.reasons.proofs.put_reasons.Reads as PutReasons
+
+pub put-reasons-only : Determines PutReasons.Learnt
+put-reasons-only κs a r q s t h g = only (h .next) (g .next)
+
+-- the lent space is the first parameter
+pub put-reasons-space-only : Settles PutReasons.Learnt (λ κs r s. now (s .0))
+put-reasons-space-only κs a r q s t h g = only (h .space) (g .space)

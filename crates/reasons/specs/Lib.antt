@@ -1,0 +1,2 @@
+-- The lines of reasons, on the tables of a sheet:
+pub mod Lines

@@ -1,0 +1,2 @@
+-- Where the lines of a text start:
+pub mod Lines

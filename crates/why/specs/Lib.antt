@@ -1,0 +1,2 @@
+-- The reasons on a case's tables:
+pub mod Reasons
