@@ -1,7 +1,25 @@
 //! Reambodkin's three requests over the bytes of three papers, as safe functions on slices. `include/reambodkin.h` has
 //! the contract in words.
+//!
+//! `step`, `outlook` and `why` return the reply as it is told; `try_step`, `try_outlook` and `try_why` return the answer
+//! or the refusal. Without the feature `archive` there are the types and the sizes alone.
 
 #![no_std]
+
+#[cfg(feature = "archive")]
+mod doors;
+mod refusal;
+mod sizes;
+
+#[cfg(feature = "archive")]
+pub use doors::*;
+pub use refusal::{Paper, Refusal, Refused};
+pub use sizes::*;
+
+/// The example of the README is run as a test.
+#[cfg(all(doctest, feature = "archive"))]
+#[doc = include_str!("../README.md")]
+struct Readme;
 
 /// What a request returns: `number` is 0 when the papers are taken, otherwise the refusal's, with its paper and line.
 #[derive(Clone, Copy, Debug, PartialEq, Eq)]
@@ -15,8 +33,37 @@ pub struct Reply {
     pub tasks: u32,
 }
 
+/// What a step that is taken gives.
+#[derive(Clone, Copy, Debug, PartialEq, Eq)]
+pub struct Stepped<'out> {
+    /// The next card, at the start of the lent space.
+    pub card: &'out [u8],
+    /// The tasks started, as a pattern.
+    pub tasks: u32,
+}
+
 impl Reply {
-    fn of([number, paper, line, count, tasks]: [u64; 5]) -> Reply {
+    /// The refusal, if the papers are not taken.
+    ///
+    /// # Panics
+    ///
+    /// Where the number is not one of 0 to 10; the library tells no other.
+    pub fn refused(self) -> Option<Refused> {
+        (self.number != 0).then(|| Refused {
+            refusal: Refusal::from_number(self.number).expect("a refusal's number"),
+            paper: Paper::from_number(self.paper),
+            line: (self.line != 0).then_some(self.line),
+        })
+    }
+
+    /// How many entries were written, or the refusal.
+    #[cfg(any(test, feature = "archive"))]
+    fn written(self) -> Result<usize, Refused> {
+        self.refused().map_or(Ok(self.count), Err)
+    }
+
+    #[cfg(any(test, feature = "archive"))]
+    fn of([number, paper, line, count, tasks]: [u64; REPLY]) -> Reply {
         Reply {
             number: number as u8,
             paper: paper as u8,
@@ -27,130 +74,20 @@ impl Reply {
     }
 }
 
-/// Puts the next card at the start of `out`, 1,024 bytes at most; a refusal leaves `out` untouched.
-pub fn step(sheet: &[u8], card: &[u8], event: &[u8], out: &mut [u8]) -> Reply {
-    let mut reply = [0; 5];
-    step_into(sheet, card, event, out, &mut reply);
-    Reply::of(reply)
-}
+#[cfg(test)]
+mod tests {
+    use super::*;
 
-/// Puts every pattern that may still come at the start of `out`, ascending, 4,096 at most; a refusal leaves `out`
-/// untouched.
-pub fn outlook(sheet: &[u8], card: &[u8], event: &[u8], out: &mut [u32]) -> Reply {
-    let mut reply = [0; 5];
-    outlook_into(sheet, card, event, out, &mut reply);
-    Reply::of(reply)
-}
-
-/// Puts the reasons why each status changed or did not at the start of `out`, ascending, 159 at most; a refusal leaves
-/// `out` untouched. A reason is `(status * 1000 + line) * 10 + kind`.
-pub fn why(sheet: &[u8], card: &[u8], event: &[u8], out: &mut [u32]) -> Reply {
-    let mut reply = [0; 5];
-    why_into(sheet, card, event, out, &mut reply);
-    Reply::of(reply)
-}
-
-/// Hands the papers and the lent space of a request on, each slice as a pointer and its length.
-macro_rules! request {
-    ($door:ident, $sheet:ident, $card:ident, $event:ident, $out:ident, $reply:ident) => {
-        // SAFETY: each pointer comes from a slice of the length given with it; `out` and `reply` are lent to this call alone.
-        unsafe {
-            library::$door(
-                $sheet.as_ptr(),
-                $sheet.len(),
-                $card.as_ptr(),
-                $card.len(),
-                $event.as_ptr(),
-                $event.len(),
-                $out.as_mut_ptr(),
-                $out.len(),
-                $reply.as_mut_ptr(),
-                $reply.len(),
-            )
-        }
-    };
-}
-
-/// The step as the library has it: the five numbers go to the start of `reply`, and the first is returned; 9, and
-/// nothing touched, where `reply` is too short.
-pub fn step_into(sheet: &[u8], card: &[u8], event: &[u8], out: &mut [u8], reply: &mut [u64]) -> u64 {
-    request!(reambodkin_step, sheet, card, event, out, reply)
-}
-
-/// The outlook as the library has it, likewise.
-pub fn outlook_into(sheet: &[u8], card: &[u8], event: &[u8], out: &mut [u32], reply: &mut [u64]) -> u64 {
-    request!(reambodkin_outlook, sheet, card, event, out, reply)
-}
-
-/// Why, as the library has it, likewise.
-pub fn why_into(sheet: &[u8], card: &[u8], event: &[u8], out: &mut [u32], reply: &mut [u64]) -> u64 {
-    request!(reambodkin_why, sheet, card, event, out, reply)
-}
-
-/// Hands the input and the lent space of a program's output on, likewise.
-#[cfg(feature = "desk")]
-macro_rules! output {
-    ($door:ident, $input:ident, $out:ident) => {
-        // SAFETY: both pointers come from slices of the lengths given with them, and `out` is lent to this call alone.
-        unsafe { library::$door($input.as_ptr(), $input.len(), $out.as_mut_ptr(), $out.len()) }
-    };
-}
-
-/// The length of the desk's output, which stands at the start of `out`; 0, and nothing touched, where `out` has fewer
-/// than 81,920 bytes.
-#[cfg(feature = "desk")]
-pub fn desk(input: &[u8], out: &mut [u8]) -> usize {
-    output!(reambodkin_desk, input, out)
-}
-
-/// The length of the clerk's output with the word `why`, which stands at the start of `out`; 0 where there is no reason,
-/// and 0, and nothing touched, where `out` has fewer than 49,152 bytes.
-#[cfg(feature = "desk")]
-pub fn clerk_why(input: &[u8], out: &mut [u8]) -> usize {
-    output!(reambodkin_clerk_why, input, out)
-}
-
-mod library {
-    unsafe extern "C" {
-        pub fn reambodkin_step(
-            sheet: *const u8,
-            sheet_len: usize,
-            card: *const u8,
-            card_len: usize,
-            event: *const u8,
-            event_len: usize,
-            out: *mut u8,
-            out_len: usize,
-            reply: *mut u64,
-            reply_len: usize,
-        ) -> u64;
-        pub fn reambodkin_outlook(
-            sheet: *const u8,
-            sheet_len: usize,
-            card: *const u8,
-            card_len: usize,
-            event: *const u8,
-            event_len: usize,
-            out: *mut u32,
-            out_len: usize,
-            reply: *mut u64,
-            reply_len: usize,
-        ) -> u64;
-        pub fn reambodkin_why(
-            sheet: *const u8,
-            sheet_len: usize,
-            card: *const u8,
-            card_len: usize,
-            event: *const u8,
-            event_len: usize,
-            out: *mut u32,
-            out_len: usize,
-            reply: *mut u64,
-            reply_len: usize,
-        ) -> u64;
-        #[cfg(feature = "desk")]
-        pub fn reambodkin_desk(input: *const u8, input_len: usize, out: *mut u8, out_len: usize) -> usize;
-        #[cfg(feature = "desk")]
-        pub fn reambodkin_clerk_why(input: *const u8, input_len: usize, out: *mut u8, out_len: usize) -> usize;
+    #[test]
+    fn a_reply_is_an_answer_or_a_refusal() {
+        let taken = Reply::of([0, 0, 0, 70, 2]);
+        assert_eq!(taken, Reply { number: 0, paper: 0, line: 0, count: 70, tasks: 2 });
+        assert_eq!((taken.refused(), taken.written()), (None, Ok(70)));
+        let refused = Refused { refusal: Refusal::Line, paper: Some(Paper::Card), line: Some(8) };
+        assert_eq!(Reply::of([2, 2, 8, 0, 0]).written(), Err(refused));
+        let cyclic = Refused { refusal: Refusal::Cycle, paper: Some(Paper::Sheet), line: None };
+        assert_eq!(Reply::of([7, 1, 0, 0, 0]).refused(), Some(cyclic));
+        let many = Refused { refusal: Refusal::Many, paper: None, line: None };
+        assert_eq!(Reply::of([10, 0, 0, 0, 0]).refused(), Some(many));
     }
 }

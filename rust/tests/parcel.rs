@@ -1,6 +1,9 @@
 //! The examples of the repository, through the safe functions.
 
-use reambodkin::{Reply, outlook, outlook_into, step, step_into, why, why_into};
+use reambodkin::{
+    OUTLOOK_OUT, Paper, Refusal, Refused, Reply, STEP_OUT, WHY_OUT, outlook, outlook_into, step, step_into,
+    try_outlook, try_step, try_why, why, why_into,
+};
 
 const SHEET: &[u8] = include_bytes!("../../examples/parcel.sheet");
 const CARD: &[u8] = include_bytes!("../../examples/parcel.card");
@@ -85,21 +88,86 @@ fn why_names_the_five_numbers() {
     assert_eq!((reply.count, reply.tasks), (written, 0));
 }
 
+#[test]
+fn answers_are_results() {
+    let mut space = [0; STEP_OUT];
+    let stepped = try_step(SHEET, CARD, FITTING, &mut space).expect("taken");
+    let card = b"case=parcel\nincome=900\npeople=3\nreview=yes\npack=yes\nfit=yes\nunfit=no\nend=6\n";
+    assert_eq!((stepped.card, stepped.tasks), (&card[..], 0b10));
+    assert_eq!(try_outlook(SHEET, CARD, MISSING, &mut [0; OUTLOOK_OUT]), Ok(&[7, 9][..]));
+    assert_eq!(try_why(SHEET, CARD, FITTING, &mut [0; WHY_OUT]), Ok(&[123, 10_151, 20_131, 30_145][..]));
+}
+
+#[test]
+fn refusals_are_results() {
+    let due = Refused { refusal: Refusal::Line, paper: Some(Paper::Event), line: Some(1) };
+    assert_eq!(try_step(SHEET, CARD, b"looked", &mut [0; STEP_OUT]), Err(due));
+    assert_eq!(try_outlook(SHEET, CARD, b"looked", &mut [0; OUTLOOK_OUT]), Err(due));
+    assert_eq!(try_why(SHEET, CARD, b"looked", &mut [0; WHY_OUT]), Err(due));
+    let room = Refused { refusal: Refusal::Room, paper: None, line: None };
+    assert_eq!(try_step(SHEET, CARD, FITTING, &mut [0; 10]), Err(room));
+    assert_eq!(try_outlook(SHEET, CARD, MISSING, &mut [0; 1]), Err(room));
+    assert_eq!(try_why(SHEET, CARD, FITTING, &mut [0; 3]), Err(room));
+    let long = Refused { refusal: Refusal::Long, paper: Some(Paper::Card), line: None };
+    assert_eq!(try_step(SHEET, &[b'x'; 1_025], FITTING, &mut [0; STEP_OUT]), Err(long));
+}
+
+/// What a program prints stands at the start of the space, which is else as it was; with a byte less all of it is.
+#[cfg(feature = "desk")]
+fn prints(program: fn(&[u8], &mut [u8]) -> usize, least: usize, input: &[u8], printed: &str) {
+    let mut out = vec![7; least];
+    let length = program(input, &mut out);
+    assert_eq!(out[..length].escape_ascii().to_string(), printed.as_bytes().escape_ascii().to_string());
+    assert!(out[length..].iter().all(|&byte| byte == 7));
+    let mut short = vec![7; least - 1];
+    assert_eq!(program(input, &mut short), 0);
+    assert!(short.iter().all(|&byte| byte == 7));
+}
+
 #[cfg(feature = "desk")]
 #[test]
 fn clerk_prints_the_reasons() {
-    let input = [SHEET, CARD, FITTING].concat();
-    let printed = b"\
+    let printed = "\
 why=-review line 12 trigger not met: on withdrawn
 why=+pack line 15 held: if fit and review
 why=+fit line 13 held: on looked if income<=900
 why=+unfit line 14 condition false: on looked if income>900
 ";
-    let mut out = [7; 49_152];
-    let length = reambodkin::clerk_why(&input, &mut out);
-    assert_eq!(out[..length].escape_ascii().to_string(), printed.escape_ascii().to_string());
-    assert_eq!(out[length..], [7; 49_152][length..]);
-    let mut short = [7; 49_151];
-    assert_eq!(reambodkin::clerk_why(&input, &mut short), 0);
-    assert_eq!(short, [7; 49_151]);
+    prints(reambodkin::clerk_why, reambodkin::CLERK_OUT, &[SHEET, CARD, FITTING].concat(), printed);
+}
+
+#[cfg(feature = "desk")]
+#[test]
+fn desk_and_clerk_print_the_next_card() {
+    let input = [SHEET, CARD, FITTING].concat();
+    let card = "case=parcel\nincome=900\npeople=3\nreview=yes\npack=yes\nfit=yes\nunfit=no\nend=6\n";
+    prints(reambodkin::desk, reambodkin::DESK_OUT, &input, &format!("{card}start=pack\noutlook=7\n"));
+    prints(reambodkin::clerk_card, reambodkin::CARD_OUT, &input, card);
+}
+
+#[cfg(feature = "desk")]
+#[test]
+fn clerk_prints_the_outlook_in_names() {
+    let printed = "\
+review=always
+pack=open
+fit=open
+unfit=open
+outlook=review pack fit
+outlook=review unfit
+";
+    prints(reambodkin::clerk_outlook, reambodkin::NAMED_OUT, &[SHEET, CARD, MISSING].concat(), printed);
+}
+
+#[cfg(feature = "desk")]
+#[test]
+fn clerk_checks_a_sheet_and_blanks_its_card() {
+    let counts = "model=parcel\nfields=2\nevents=3\nstages=2\nmiles=2\nrules=5\nleaves=5\n";
+    let blank = "case=parcel\nincome=?\npeople=?\nreview=no\npack=no\nfit=no\nunfit=no\nend=6\n";
+    prints(reambodkin::clerk_check, reambodkin::CHECK_OUT, SHEET, counts);
+    prints(reambodkin::clerk_blank, reambodkin::CARD_OUT, SHEET, blank);
+    let circle = b"model=m\nevent=e\nstage=p\nstage=c p\nrule=+c on e\nrule=-p on +c\nend=2\n";
+    let told = "refused=7 1 0\ncircle=-p +c 5\ncircle=+c -p 6\n";
+    prints(reambodkin::clerk_check, reambodkin::CHECK_OUT, circle, told);
+    prints(reambodkin::clerk_blank, reambodkin::CARD_OUT, circle, "refused=7 1 0\n");
 }

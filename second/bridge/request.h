@@ -8,7 +8,7 @@
 #include <stddef.h>
 #include <stdint.h>
 
-enum function { STEP, OUTLOOK, WHY, DESK, CLERK_WHY };
+enum function { STEP, OUTLOOK, WHY, DESK, CLERK_WHY, CLERK_CARD, CLERK_OUTLOOK, CLERK_CHECK, CLERK_BLANK };
 
 /* Lengths are counted as in reambodkin.h. The desk and the clerk have their input for a sheet, and no card, event and
  * reply. */

@@ -97,6 +97,14 @@ static uint64_t call(const struct request *request, const uint8_t *sheet, const 
         return reambodkin_desk(sheet, request->sheet_len, out, request->out_len);
     case CLERK_WHY:
         return reambodkin_clerk_why(sheet, request->sheet_len, out, request->out_len);
+    case CLERK_CARD:
+        return reambodkin_clerk_card(sheet, request->sheet_len, out, request->out_len);
+    case CLERK_OUTLOOK:
+        return reambodkin_clerk_outlook(sheet, request->sheet_len, out, request->out_len);
+    case CLERK_CHECK:
+        return reambodkin_clerk_check(sheet, request->sheet_len, out, request->out_len);
+    case CLERK_BLANK:
+        return reambodkin_clerk_blank(sheet, request->sheet_len, out, request->out_len);
     default:
         fail("bridge: a request for no function\n");
         return 0;

@@ -108,12 +108,33 @@ uint64_t reambodkin_why(const uint8_t *sheet, size_t sheet_len, const uint8_t *c
     return ask(&request, sheet, card, event, out, reply);
 }
 
-size_t reambodkin_desk(const uint8_t *input, size_t input_len, uint8_t *out, size_t out_len) {
-    struct request request = {DESK, input_len, 0, 0, out_len, 0};
+/* What a program prints for its input. */
+static size_t ask_printed(enum function function, const uint8_t *input, size_t input_len, uint8_t *out,
+                          size_t out_len) {
+    struct request request = {function, input_len, 0, 0, out_len, 0};
     return ask(&request, input, NULL, NULL, out, NULL);
 }
 
+size_t reambodkin_desk(const uint8_t *input, size_t input_len, uint8_t *out, size_t out_len) {
+    return ask_printed(DESK, input, input_len, out, out_len);
+}
+
 size_t reambodkin_clerk_why(const uint8_t *input, size_t input_len, uint8_t *out, size_t out_len) {
-    struct request request = {CLERK_WHY, input_len, 0, 0, out_len, 0};
-    return ask(&request, input, NULL, NULL, out, NULL);
+    return ask_printed(CLERK_WHY, input, input_len, out, out_len);
+}
+
+size_t reambodkin_clerk_card(const uint8_t *input, size_t input_len, uint8_t *out, size_t out_len) {
+    return ask_printed(CLERK_CARD, input, input_len, out, out_len);
+}
+
+size_t reambodkin_clerk_outlook(const uint8_t *input, size_t input_len, uint8_t *out, size_t out_len) {
+    return ask_printed(CLERK_OUTLOOK, input, input_len, out, out_len);
+}
+
+size_t reambodkin_clerk_check(const uint8_t *input, size_t input_len, uint8_t *out, size_t out_len) {
+    return ask_printed(CLERK_CHECK, input, input_len, out, out_len);
+}
+
+size_t reambodkin_clerk_blank(const uint8_t *input, size_t input_len, uint8_t *out, size_t out_len) {
+    return ask_printed(CLERK_BLANK, input, input_len, out, out_len);
 }

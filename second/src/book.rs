@@ -1,6 +1,10 @@
 //! The rules by the book: slow, for small sheets. Every after side is tried against the rules as they are written,
 //! paths are searched from each node, an outlook is made from several fillings of each part, and each reason that
-//! there could be is asked whether it is to be told.
+//! there could be is asked whether it is to be told. What the clerk's words print is read again (`printed`).
+
+mod printed;
+
+pub use printed::{check_card, check_named, check_sheet};
 
 use std::collections::BTreeSet;
 
@@ -260,41 +264,54 @@ fn run(case: &Case, order: &[usize], values: &[Option<i64>]) -> u32 {
     half_made
 }
 
+fn plus(status: usize) -> usize {
+    2 * status
+}
+
+fn minus(status: usize) -> usize {
+    2 * status + 1
+}
+
 /// The edges as pairs, source and target.
 fn edges(sheet: &Sheet) -> BTreeSet<(usize, usize)> {
-    let plus = |status: usize| 2 * status;
-    let minus = |status: usize| 2 * status + 1;
     let mut edges = BTreeSet::new();
     for rule in &sheet.rules {
-        let target = match rule.change {
-            Change::Rise => plus(rule.status),
-            Change::Fall => minus(rule.status),
-        };
-        match rule.trigger {
-            Some(Trigger::Status(Change::Rise, status)) => drop(edges.insert((plus(status), target))),
-            Some(Trigger::Status(Change::Fall, status)) => drop(edges.insert((minus(status), target))),
-            Some(Trigger::Event(_)) | None => {}
-        }
-        let mut read = Vec::new();
-        if let Some(condition) = &rule.condition {
-            condition.leaves(&mut |leaf| {
-                if let Condition::Status(status) = leaf {
-                    read.push(*status);
-                }
-            });
-        }
-        if rule.change == Change::Rise {
-            read.extend(sheet.names.statuses[rule.status].parent);
-        }
-        for status in read {
-            edges.insert((plus(status), target));
-            edges.insert((minus(status), target));
-        }
+        edges.extend(edges_of(sheet, rule));
     }
     for child in 0..sheet.names.stages {
         if let Some(parent) = sheet.names.statuses[child].parent {
             edges.insert((minus(parent), minus(child)));
         }
+    }
+    edges
+}
+
+/// The edges that a rule gives.
+fn edges_of(sheet: &Sheet, rule: &Rule) -> Vec<(usize, usize)> {
+    let mut edges = Vec::new();
+    let target = match rule.change {
+        Change::Rise => plus(rule.status),
+        Change::Fall => minus(rule.status),
+    };
+    match rule.trigger {
+        Some(Trigger::Status(Change::Rise, status)) => edges.push((plus(status), target)),
+        Some(Trigger::Status(Change::Fall, status)) => edges.push((minus(status), target)),
+        Some(Trigger::Event(_)) | None => {}
+    }
+    let mut read = Vec::new();
+    if let Some(condition) = &rule.condition {
+        condition.leaves(&mut |leaf| {
+            if let Condition::Status(status) = leaf {
+                read.push(*status);
+            }
+        });
+    }
+    if rule.change == Change::Rise {
+        read.extend(sheet.names.statuses[rule.status].parent);
+    }
+    for status in read {
+        edges.push((plus(status), target));
+        edges.push((minus(status), target));
     }
     edges
 }

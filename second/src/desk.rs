@@ -14,13 +14,13 @@ pub fn desk(input: &[u8]) -> Vec<u8> {
 
 /// What a program at the desk prints: the refusal of its papers, or what it makes of their case.
 pub fn printed(input: &[u8], of_case: impl FnOnce(&Case) -> Vec<u8>) -> Vec<u8> {
-    match read(input) {
-        Ok(case) => of_case(&case),
-        Err(refusal) => {
-            let [number, paper, line] = refusal.numbers();
-            format!("refused={number} {paper} {line}\n").into_bytes()
-        }
-    }
+    read(input).map_or_else(refused, |case| of_case(&case))
+}
+
+/// The line of a refusal.
+pub fn refused(refusal: Refusal) -> Vec<u8> {
+    let [number, paper, line] = refusal.numbers();
+    format!("refused={number} {paper} {line}\n").into_bytes()
 }
 
 fn read(input: &[u8]) -> Result<Case<'_>, Refusal> {

@@ -1,7 +1,9 @@
 //! The document's examples, with their answers written by hand, and inputs for its odd corners.
 
+mod clerk;
 mod why;
 
+pub use clerk::{blank_examples, card_examples, check_examples, named_examples};
 pub use why::{WhyExample, clerk_examples, why_examples};
 
 use crate::papers::Papers;

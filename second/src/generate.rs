@@ -1,5 +1,6 @@
 //! Papers from a seed: in order, at the limits, and damaged in many ways. Case `index` of a seed is always the same.
 
+mod circles;
 mod damage;
 mod draft;
 mod edge;
@@ -49,8 +50,9 @@ fn drawn(random: &mut Random) -> Papers {
         720..850 => Draft::draw(random, &MIDDLE).papers(random),
         850..856 => Draft::draw(random, &LARGE).papers(random),
         856..910 => edge::at_a_limit(random),
-        910..955 => edge::cycle(random),
-        955..985 => edge::orphans(random),
+        910..935 => edge::cycle(random),
+        935..960 => circles::circles(random),
+        960..985 => edge::orphans(random),
         985..995 => edge::parts(random),
         _ => full_sheet(random),
     }

@@ -45,7 +45,8 @@ pub fn edges(sheet: &Sheet) -> Vec<u64> {
     sources
 }
 
-fn rule_sources(sheet: &Sheet, rule: &Rule) -> u64 {
+/// The nodes from which a rule has an edge to its consequent.
+pub fn rule_sources(sheet: &Sheet, rule: &Rule) -> u64 {
     let mut sources = 0;
     if let Some(Trigger::Status(change, status)) = rule.trigger {
         sources |= 1 << Node { change, status }.index();
@@ -63,10 +64,9 @@ fn rule_sources(sheet: &Sheet, rule: &Rule) -> u64 {
     sources
 }
 
-/// A testing order, or None if some path leads from a node to itself.
-pub fn testing_order(sheet: &Sheet) -> Option<Vec<Node>> {
-    // For each node the set of nodes from which a path leads to it.
-    let mut earlier = edges(sheet);
+/// For each node the set of nodes from which a path leads to it.
+pub fn earlier(edges: &[u64]) -> Vec<u64> {
+    let mut earlier = edges.to_vec();
     for middle in 0..earlier.len() {
         let before_middle = earlier[middle];
         for sources in &mut earlier {
@@ -75,7 +75,18 @@ pub fn testing_order(sheet: &Sheet) -> Option<Vec<Node>> {
             }
         }
     }
-    if earlier.iter().enumerate().any(|(node, sources)| sources >> node & 1 == 1) {
+    earlier
+}
+
+/// The nodes from which a path leads to themselves.
+pub fn cyclic(earlier: &[u64]) -> u64 {
+    (0..earlier.len()).filter(|&node| earlier[node] >> node & 1 == 1).fold(0, |set, node| set | 1 << node)
+}
+
+/// A testing order, or None if some path leads from a node to itself.
+pub fn testing_order(sheet: &Sheet) -> Option<Vec<Node>> {
+    let earlier = earlier(&edges(sheet));
+    if cyclic(&earlier) != 0 {
         return None;
     }
     // An edge's target has all that its source has before it, and the source too: more of them.

@@ -1,12 +1,13 @@
-//! A second implementation of the rules, written from their document alone and by other ways where there are some.
+//! A second implementation of the rules, written from their documents alone and by other ways where there are some.
 //!
-//! `step`, `outlook`, `why`, `desk` and `clerk_why` answer as the document and its requests say. `book` checks them the
-//! slow way on small sheets, `generate` makes papers from a seed, and `examples` holds the document's own.
+//! `step`, `outlook`, `why`, `desk` and the functions of the clerk's words answer as the document and its requests say.
+//! `book` checks them the slow way, `generate` makes papers from a seed, and `examples` holds the document's own.
 
 #![forbid(unsafe_code)]
 
 pub mod book;
 pub mod card;
+pub mod circle;
 pub mod clerk;
 pub mod condition;
 pub mod desk;
@@ -24,7 +25,7 @@ pub mod step;
 pub mod survey;
 pub mod why;
 
-pub use clerk::clerk_why;
+pub use clerk::{clerk_blank, clerk_card, clerk_check, clerk_outlook, clerk_why};
 pub use desk::desk;
 pub use refusal::{Fault, Paper, Refusal};
 pub use step::Next;

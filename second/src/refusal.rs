@@ -31,6 +31,9 @@ pub struct Refusal {
 }
 
 impl Refusal {
+    /// Of a sheet whose rules depend on each other in a circle.
+    pub const CYCLE: Refusal = Refusal { fault: Fault::Cycle, paper: Paper::Sheet, line: 0 };
+
     /// A refusal that concerns no paper and no line.
     pub fn of_request(fault: Fault) -> Refusal {
         Refusal { fault, paper: Paper::None, line: 0 }

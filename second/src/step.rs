@@ -4,7 +4,7 @@ use crate::{
     card::{Card, EventLine},
     graph::{Node, testing_order},
     piece::Value,
-    refusal::{Fault, Paper, Refusal},
+    refusal::Refusal,
     sheet::{Change, Rule, Sheet, Trigger},
 };
 
@@ -30,8 +30,7 @@ pub struct Next {
 impl<'a> Case<'a> {
     pub fn read(sheet: &'a [u8], card: &'a [u8], event: &'a [u8]) -> Result<Case<'a>, Refusal> {
         let sheet = Sheet::read(sheet)?;
-        let cycle = Refusal { fault: Fault::Cycle, paper: Paper::Sheet, line: 0 };
-        let order = testing_order(&sheet).ok_or(cycle)?;
+        let order = testing_order(&sheet).ok_or(Refusal::CYCLE)?;
         let card = Card::read(&sheet.names, card)?;
         let line = EventLine::read(&sheet.names, event)?;
         let mut values = card.values;

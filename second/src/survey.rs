@@ -1,9 +1,13 @@
 //! One case looked at from all sides by the second implementation: its answers counted, small ones checked by the book.
 
-use std::{io::Write, process::ExitCode};
+use std::{
+    io::{Read, Write},
+    process::ExitCode,
+};
 
 use crate::{
     Next, book,
+    circle::circle,
     generate::Random,
     papers::Papers,
     refusal::{Fault, Paper, Refusal},
@@ -17,8 +21,8 @@ pub struct Answers {
     pub step: Result<Next, Refusal>,
     pub outlook: Result<Vec<u32>, Refusal>,
     pub why: Result<Vec<u32>, Refusal>,
-    pub desk: Vec<u8>,
-    pub clerk_why: Vec<u8>,
+    /// What each program prints, in the order of `Request::PRINTED`.
+    pub printed: [Vec<u8>; Request::PRINTED.len()],
 }
 
 impl Answers {
@@ -28,8 +32,7 @@ impl Answers {
             step: crate::step(sheet, card, event, usize::MAX),
             outlook: crate::outlook(sheet, card, event, usize::MAX),
             why: crate::why(sheet, card, event, usize::MAX),
-            desk: crate::desk(&papers.joined()),
-            clerk_why: crate::clerk_why(&papers.joined()),
+            printed: Request::PRINTED.map(|request| request.print(&request.input(papers))),
         }
     }
 
@@ -57,21 +60,32 @@ impl Answers {
             }
             Err(refusal) => statistic.refused(Request::Why, *refusal),
         }
-        for (request, output) in [(Request::Desk, &self.desk), (Request::ClerkWhy, &self.clerk_why)] {
-            match printed_refusal(output) {
+        for (request, output) in Request::PRINTED.into_iter().zip(&self.printed) {
+            match printed_refusal(request, output) {
                 None => statistic.taken(request),
                 Some(refusal) => statistic.refused(request, refusal),
             }
+        }
+        if let Ok(sheet) = Sheet::read(&papers.sheet)
+            && let Some(edges) = circle(&sheet)
+        {
+            statistic.circle(&sheet, &edges);
         }
     }
 }
 
 /// The refusal that a program printed, if it printed one.
-fn printed_refusal(output: &[u8]) -> Option<Refusal> {
-    if output.ends_with(b"\noutlook=refused\n") {
+fn printed_refusal(request: Request, output: &[u8]) -> Option<Refusal> {
+    let many = match request {
+        Request::Desk => output.ends_with(b"\noutlook=refused\n"),
+        // A status may have the name `refused`; above its patterns stand the statuses.
+        _ => output == b"outlook=refused\n",
+    };
+    if many {
         return Some(Refusal::of_request(Fault::Many));
     }
-    let text = std::str::from_utf8(output.strip_prefix(b"refused=")?).ok()?;
+    let first = output.split(|byte| *byte == b'\n').next()?;
+    let text = std::str::from_utf8(first.strip_prefix(b"refused=")?).ok()?;
     let numbers: Vec<usize> = text.split_whitespace().filter_map(|word| word.parse().ok()).collect();
     let [number, paper, line] = numbers[..] else { return None };
     const FAULTS: [Fault; 10] = [
@@ -94,17 +108,41 @@ fn printed_refusal(output: &[u8]) -> Option<Refusal> {
 pub fn check_by_book(papers: &Papers, random: &mut Random) -> Result<(), String> {
     if let Ok(sheet) = Sheet::read(&papers.sheet) {
         book::check_graph(&sheet)?;
+        book::check_sheet(&papers.sheet, &sheet)?;
     }
     if let Ok(case) = Case::read(&papers.sheet, &papers.card, &papers.event) {
         book::check_case(&case, random)?;
         book::check_why(&case)?;
+        // Papers that are taken are parted by the programs as they are here.
+        book::check_card(&papers.joined())?;
+        book::check_named(&papers.joined(), &case)?;
     }
     Ok(())
 }
 
 /// Prints a text; a reader that has gone away is no fault.
 pub fn say(text: &str) {
-    let _ = std::io::stdout().write_all(text.as_bytes());
+    print(text.as_bytes());
+}
+
+fn print(bytes: &[u8]) {
+    let mut output = std::io::stdout().lock();
+    let _ = output.write_all(bytes).and_then(|()| output.flush());
+}
+
+/// A program over the whole of its input.
+pub fn answer_input(mut input: impl Read, answer: fn(&[u8]) -> Vec<u8>) -> ExitCode {
+    let mut bytes = Vec::new();
+    match input.read_to_end(&mut bytes) {
+        Ok(_) => {
+            print(&answer(&bytes));
+            ExitCode::SUCCESS
+        }
+        Err(fault) => {
+            eprintln!("standard input: {fault}");
+            ExitCode::FAILURE
+        }
+    }
 }
 
 /// Runs on a thread with a large stack.

@@ -1,18 +1,25 @@
 //! The document's examples, byte for byte, and the odd corners.
 
 use second::{
-    examples::{CARD_Q, SHEET_P, clerk_examples, corner_examples, desk_examples, why_examples},
+    examples::{
+        CARD_Q, DeskExample, SHEET_P, blank_examples, card_examples, check_examples, clerk_examples, corner_examples,
+        desk_examples, named_examples, why_examples,
+    },
     outlook::cuts,
     sheet::Sheet,
     step::Case,
 };
 
-#[test]
-fn desk_prints_what_the_document_says() {
-    for example in desk_examples() {
-        let printed = String::from_utf8(second::desk(&example.input)).expect("printed text");
+fn prints(program: fn(&[u8]) -> Vec<u8>, examples: Vec<DeskExample>) {
+    for example in examples {
+        let printed = String::from_utf8(program(&example.input)).expect("printed text");
         assert_eq!(printed, example.output, "{}", example.name);
     }
+}
+
+#[test]
+fn desk_prints_what_the_document_says() {
+    prints(second::desk, desk_examples());
 }
 
 #[test]
@@ -63,16 +70,33 @@ fn why_tells_what_the_request_says() {
 
 #[test]
 fn clerk_prints_what_the_request_says() {
-    for example in clerk_examples() {
-        let printed = String::from_utf8(second::clerk_why(&example.input)).expect("printed text");
-        assert_eq!(printed, example.output, "{}", example.name);
-    }
+    prints(second::clerk_why, clerk_examples());
+    prints(second::clerk_card, card_examples());
+    prints(second::clerk_outlook, named_examples());
+    prints(second::clerk_check, check_examples());
+    prints(second::clerk_blank, blank_examples());
 }
 
 #[test]
 fn clerk_refuses_as_the_desk_does() {
-    for example in desk_examples().into_iter().filter(|example| example.output.starts_with("refused=")) {
-        assert_eq!(second::clerk_why(&example.input), example.output.as_bytes(), "{}", example.name);
+    let refused = || desk_examples().into_iter().filter(|example| example.output.starts_with("refused=")).collect();
+    prints(second::clerk_why, refused());
+    prints(second::clerk_card, refused());
+    prints(second::clerk_outlook, refused());
+}
+
+#[test]
+fn corners_of_the_sheet_are_checked_as_read() {
+    for example in corner_examples() {
+        let [number, paper, line] = example.answer;
+        if paper == 1 {
+            let refused = format!("refused={number} 1 {line}\n").into_bytes();
+            assert!(second::clerk_check(&example.papers.sheet).starts_with(&refused), "{}", example.name);
+            assert_eq!(second::clerk_blank(&example.papers.sheet), refused, "{}", example.name);
+        } else {
+            assert!(second::clerk_check(&example.papers.sheet).starts_with(b"model="), "{}", example.name);
+            assert!(second::clerk_blank(&example.papers.sheet).starts_with(b"case="), "{}", example.name);
+        }
     }
 }
 

@@ -54,6 +54,31 @@ fn clerk_shows_the_lines_of_the_sheet() {
 }
 
 #[test]
+fn blank_cards_are_taken() {
+    let mut taken = 0;
+    for index in 0..4_000 {
+        let papers = generate(6, index);
+        let blank = second::clerk_blank(&papers.sheet);
+        let Ok(sheet) = Sheet::read(&papers.sheet) else {
+            assert!(blank.starts_with(b"refused="), "case {index}\n{papers}");
+            continue;
+        };
+        if blank == b"refused=7 1 0\n" {
+            continue;
+        }
+        for event in &sheet.names.events {
+            let values: String =
+                event.fields.iter().map(|&field| format!(" {}=?", sheet.names.fields[field].escape_ascii())).collect();
+            let line = format!("{}{values}\n", event.name.escape_ascii());
+            let next = second::step(&papers.sheet, &blank, line.as_bytes(), 1_024);
+            assert!(next.is_ok(), "case {index}, {line}{next:?}\n{papers}");
+            taken += 1;
+        }
+    }
+    assert!(taken > 1_000, "{taken} steps taken");
+}
+
+#[test]
 fn the_full_shape_is_at_every_limit() {
     for listing in Listing::ALL {
         let papers = Shape { listing, ..Shape::FULL }.papers();
@@ -66,6 +91,8 @@ fn the_full_shape_is_at_every_limit() {
             condition.leaves(&mut |_| leaves += 1);
         }
         assert_eq!(leaves, 512);
+        let checked = second::clerk_check(&papers.sheet);
+        assert!(checked.ends_with(b"\nrules=128\nleaves=512\n"), "{}", checked.escape_ascii());
         let case = Case::read(&papers.sheet, &papers.card, &papers.event).expect("taken");
         assert_eq!(patterns(&case).expect("not too many").len(), 4_096);
     }

@@ -93,10 +93,10 @@ unfolding testingOrder orderFor
 order-long sh o e = order-length (predecessors (tests sh)) (nodes (sh .heads)) (from 0 (nodes (sh .heads))) o e
 
 -- what was read
-record Read (s : List ℕ) (r : SheetRead) : Type 0 where
-  sh : M.Sheet
-  is : paper 1 sheetBytes sheet s ≡ taken sh
-  same : r ≡ asSheetRead (taken sh)
+pub record Read (s : List ℕ) (r : SheetRead) : Type 0 where
+  pub sh : M.Sheet
+  pub is : paper 1 sheetBytes sheet s ≡ taken sh
+  pub same : r ≡ asSheetRead (taken sh)
 
 module _ (s : List ℕ) (r : SheetRead) (told : r ≡ asSheetRead (paper 1 sheetBytes sheet s)) where
   number-told : (n p l : ℕ) → paper 1 sheetBytes sheet s ≡ refused n p l → 1 ≤ n
@@ -121,13 +121,14 @@ module _ (s : List ℕ) (r : SheetRead) (told : r ≡ asSheetRead (paper 1 sheet
       go (refused n p l) e = f ∙ ap (λ (r : SheetRead). refusedSheet (r .number) (r .line)) (told ∙ ap asSheetRead e) ∙ sym (rw e)
 
   module _ (zero : r .number ≡ 0) where
-    up : Read s r
+    -- the sheet, and that it is well formed
+    pub up : Read s r
     up = read zero
 
-    well : Well (up .sh)
+    pub well : Well (up .sh)
     well = paper-holds Well 1 sheetBytes sheet s sheet-well (up .sh) (up .is)
 
-    sum-is : r .heads .stages + r .heads .miles ≡ length (statuses (up .sh .heads))
+    pub sum-is : r .heads .stages + r .heads .miles ≡ length (statuses (up .sh .heads))
     unfolding asHeads statuses
     sum-is = ap (λ (r : SheetRead). r .heads .stages + r .heads .miles) (up .same) ∙ sym (length-append (up .sh .heads .stages) (up .sh .heads .miles))
 
@@ -139,7 +140,7 @@ module _ (s : List ℕ) (r : SheetRead) (told : r ≡ asSheetRead (paper 1 sheet
     unfolding asHeads
     events-are = ap (λ (r : SheetRead). r .heads .events) (up .same)
 
-    words-are : r .words ≡ padded 1024 0 (allWords (up .sh .rules))
+    pub words-are : r .words ≡ padded 1024 0 (allWords (up .sh .rules))
     words-are = ap (λ (r : SheetRead). r .words) (up .same) ∙ sets-padded (allWords (up .sh .rules)) (sheet-words s (up .sh) (up .is))
 
     pub accept-sum : Fits w64 (r .heads .stages + r .heads .miles)
@@ -168,13 +169,13 @@ module _ (s : List ℕ) (r : SheetRead) (told : r ≡ asSheetRead (paper 1 sheet
         accept-ready = tests-ready (up .sh) well (r .rules) line (ap (λ (r : SheetRead). r .rules) (up .same)) line-is
 
         module _ (t : Tests) (made-of : t ≡ testsOf (r .rules) (r .heads .under) (r .heads .stages) line) where
-          tests-told : t ≡ asTests (rowsOf (up .sh))
+          pub tests-told : t ≡ asTests (rowsOf (up .sh))
           unfolding asHeads
           tests-told = tests-are (up .sh) (r .rules) (r .heads .under) (r .heads .stages) line
               (ap (λ (r : SheetRead). r .rules) (up .same)) (ap (λ (r : SheetRead). r .heads .under) (up .same)) (ap (λ (r : SheetRead). r .heads .stages) (up .same)) line-is t made-of
 
           module _ (o : Sorting) (sorted : o ≡ asSorting (orderFor (k * 2) (testsInto (r .words) (take (t .count) (t .rows))))) where
-            order : o ≡ asSorting (testingOrder (up .sh))
+            pub order : o ≡ asSorting (testingOrder (up .sh))
             order = order-is (up .sh) well t (r .words) tests-told words-are k (sum ∙ sum-is) o sorted
 
             pub accept-cycle : not (o .found) ≡ true → (q : Accepted) → q ≡ refusedSheet 7 0 → q ≡ asAccepted (readSheet s)

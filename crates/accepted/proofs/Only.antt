@@ -1,10 +1,14 @@
 -- No second answer fits: each public function's contract determines what it answers.
 use Rattle.theory.specs.Determined.{Determines, only}
 use Rattle.accepted.proofs.refused.Reads as Refused
+use Rattle.accepted.proofs.rule_line.Reads as RuleLine
 use Rattle.accepted.proofs.accept.Reads as Accept
 
 pub refused-only : Determines Refused.Learnt
 refused-only κs a r q s t = only
+
+pub rule-line-only : Determines RuleLine.Learnt
+rule-line-only κs a r q s t = only
 
 pub accept-only : Determines Accept.Learnt
 accept-only κs a r q s t = only

@@ -34,7 +34,7 @@ pub fn refused(number: u8, line: usize) -> Accepted
 }
 
 // The line of the first rule: behind one for the model and one for each name.
-fn rule_line(fields: usize, events: usize, statuses: usize) -> usize
+pub fn rule_line(fields: usize, events: usize, statuses: usize) -> usize
     requires { ⌜ (fields ≤ 16) × (events ≤ 16) × (statuses ≤ 32) ⌝ }
     ensures { λ r. ⌜ r ≡ 2 + fields + events + statuses ⌝ }
 {

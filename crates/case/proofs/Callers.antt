@@ -7,6 +7,7 @@ use Rattle.meaning.specs.Refusal.{Answer, taken, refused}
 use Rattle.meaning.specs.Sheet as M
 use Rattle.meaning.specs.Doors as D
 use Rattle.meaning.specs.Doors.{readSheet, readTold, Case, readCase}
+use Rattle.meaning.specs.Desk.{refusalText, orRefusal}
 use Rattle.theory.specs.Numbers.{told-tells}
 use Rattle.theory.specs.Papers.{caseOf, case-joined}
 use Rattle.tables.specs.Heads.{headsOf}
@@ -14,6 +15,7 @@ use Rattle.card.specs.declared.Card.{Card}
 use Rattle.card.specs.Answers.{asCard}
 use Rattle.event.specs.declared.Happening.{Happening}
 use Rattle.event.specs.Answers.{asHappening}
+use Rattle.space.specs.Answers.{Wrote}
 use Rattle.accepted.specs.declared.Accepted.{Accepted}
 use Rattle.accepted.specs.Answers.{takenSheet, asAccepted}
 use Rattle.accepted.proofs.Callers.{accept-read, accept-wrong, accept-heads}
@@ -70,3 +72,16 @@ module _ (s c e : List ℕ) (x : Accepted) (sheet-told : x ≡ asAccepted (readS
         let a = accept-read s x sheet-told zero in
         let (m, same, is) = told-read hd c e t told-is read in
         record { k = caseOf (a .sheet) m; q = case-joined s c e (a .sheet) m (a .same) same; sheet = a .is; given = ap (λ (t : Told). t .card) is; happened = ap (λ (t : Told). t .happening) is }
+
+-- WHAT A PROGRAM PRINTS for the three papers, whatever it makes of a case and the bytes of its sheet
+
+module _ (print : List ℕ → Case → List ℕ) (s c e : List ℕ) (x : Accepted) (sheet-told : x ≡ asAccepted (readSheet s)) where
+  pub printed-sheet : (x .number ≡ 0 → ⊥) → (o o1 : List ℕ) (r : ℕ) → Wrote 0 (refusalText (x .number) 1 (x .line)) o o1 r → Wrote 0 (orRefusal (print s) (readCase s c e)) o o1 r
+  printed-sheet z o o1 r v = rw (sheet-refused s c e x sheet-told z) v
+
+  module _ (zero : x .number ≡ 0) (t : Told) (told : t ≡ asTold (headsOf (x .heads)) (readTold (headsOf (x .heads)) c e)) where
+    pub printed-told : (t .number ≡ 0 → ⊥) → (o o1 : List ℕ) (r : ℕ) → Wrote 0 (refusalText (t .number) (t .paper) (t .line)) o o1 r → Wrote 0 (orRefusal (print s) (readCase s c e)) o o1 r
+    printed-told z o o1 r v = rw (told-refused s c e x sheet-told zero t told z) v
+
+    pub printed-case : (read : t .number ≡ 0) (w : List ℕ) → w ≡ print s (the-case s c e x sheet-told zero t told read .k) → (o o1 : List ℕ) (r : ℕ) → Wrote 0 w o o1 r → Wrote 0 (orRefusal (print s) (readCase s c e)) o o1 r
+    printed-case read w is o o1 r v = rw (the-case s c e x sheet-told zero t told read .q) (rw is at v)

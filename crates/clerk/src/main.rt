@@ -1,4 +1,4 @@
-// The clerk's program: its first word names a request. It reads sheet, card and event line from standard input, as the desk program does, and prints what the request tells.
+// The clerk's program: its first word names a request. It reads its papers from standard input, as the desk program does, or a sheet alone, and prints what the request tells.
 use libc::STDIN_FILENO;
 use libc::STDOUT_FILENO;
 
@@ -9,18 +9,81 @@ fn tell_why(input: &[u8]) {
     io::write_all(STDOUT_FILENO, &out[..n]);
 }
 
-// The request `why`. One byte more than is taken is read, so that a longer input is told as LONG.
+// Prints the next card.
+fn tell_card(input: &[u8]) {
+    let mut out = [0u8; 1024];
+    let n = cardout::card_output(input, &mut out);
+    io::write_all(STDOUT_FILENO, &out[..n]);
+}
+
+// Prints what may still come, in names, by way of this space.
+fn tell_names(input: &[u8], out: &mut [u8; 1900544]) {
+    let n = lookout::outlook_output(input, out);
+    let all = &out[..];
+    io::write_all(STDOUT_FILENO, &all[..n]);
+}
+
+// The same. The large array stands here, so that the other words do not need its stack.
+fn tell_outlook(input: &[u8]) {
+    let mut out = [0u8; 1900544];
+    tell_names(input, &mut out);
+}
+
+// Prints what a sheet holds, or where its circle is.
+fn tell_check(input: &[u8]) {
+    let mut out = [0u8; 8192];
+    let n = checkup::check_output(input, &mut out);
+    io::write_all(STDOUT_FILENO, &out[..n]);
+}
+
+// Prints a sheet's card with nothing known yet.
+fn tell_blank(input: &[u8]) {
+    let mut out = [0u8; 1024];
+    let n = checkup::blank_output(input, &mut out);
+    io::write_all(STDOUT_FILENO, &out[..n]);
+}
+
+// The requests for three papers. One byte more than is taken is read, so that a longer input is told as LONG.
 fn why() {
     let mut input = [0u8; 34305];
     let n = io::read_full(STDIN_FILENO, &mut input);
     tell_why(&input[..n]);
 }
 
+fn card() {
+    let mut input = [0u8; 34305];
+    let n = io::read_full(STDIN_FILENO, &mut input);
+    tell_card(&input[..n]);
+}
+
+fn outlook() {
+    let mut input = [0u8; 34305];
+    let n = io::read_full(STDIN_FILENO, &mut input);
+    tell_outlook(&input[..n]);
+}
+
+// Those for a sheet alone, likewise.
+fn check() {
+    let mut input = [0u8; 32769];
+    let n = io::read_full(STDIN_FILENO, &mut input);
+    tell_check(&input[..n]);
+}
+
+fn blank() {
+    let mut input = [0u8; 32769];
+    let n = io::read_full(STDIN_FILENO, &mut input);
+    tell_blank(&input[..n]);
+}
+
 // What there is, a line for each word.
 fn words() {
     io::write_all(
         STDOUT_FILENO,
-        b"clerk why: for each status why it changed, or what stopped each rule\n",
+        b"clerk why: for each status why it changed, or what stopped each rule\nclerk card: the next card alone\nclerk outlook: what may still come, in names\n",
+    );
+    io::write_all(
+        STDOUT_FILENO,
+        b"clerk check: whether a sheet is taken, or where its circle is\nclerk blank: a sheet's card with nothing known yet\n",
     );
 }
 
@@ -33,6 +96,22 @@ fn is(word: &[u8], k: &[u8]) -> bool {
 fn request(word: &[u8]) {
     if is(word, b"why") {
         why();
+        return;
+    }
+    if is(word, b"card") {
+        card();
+        return;
+    }
+    if is(word, b"outlook") {
+        outlook();
+        return;
+    }
+    if is(word, b"check") {
+        check();
+        return;
+    }
+    if is(word, b"blank") {
+        blank();
         return;
     }
     words();

@@ -17,13 +17,12 @@ use Rattle.meaning.specs.Tests.{tests}
 use Rattle.meaning.specs.Outlook.{insert, ascending, compares, comparisons, cutsAt, cuts}
 use Rattle.theory.specs.Lists.{joined-one, joined-same, map-joined, joined-twice}
 use Rattle.theory.specs.Conditions.{LeafIn}
-use Rattle.theory.specs.Ascending.{Placing, lower, higher, placing, insert-lower, insert-equal, insert-higher}
+use Rattle.theory.specs.Ascending.{Placing, lower, higher, placing, insert-lower, insert-equal, insert-higher, ascending-few}
 use Rattle.verdict.specs.Flat.{word, bit, comparisonWord, leafWord, words}
 use Rattle.verdict.specs.Fits.{Fits}
 use Rattle.verdict.proofs.Words.{bit-small, kind-of, field-of, number-of}
 use Rattle.theory.specs.Tested.{leaves-same}
 use Rattle.verdict.proofs.Leaves.{words-leaves}
-use Rattle.sets.proofs.Callers.{ascending-few}
 use Rattle.cuts.specs.Codes.{cutCode, wordCuts, cutCodes}
 use Rattle.cuts.proofs.Laws.{word-few}
 

@@ -12,9 +12,9 @@ use borrow.Author.Tests.{eq-eqb, ne-eqb, lt-ltb, le-ltb, le-leb, lt-leb}
 use Rattle.meaning.specs.Text.{joined}
 use Rattle.meaning.specs.Number.{limit}
 use Rattle.meaning.specs.Outlook.{insert, ascending}
-use Rattle.theory.specs.Ascending.{Up, insert-up, ascending-up}
+use Rattle.theory.specs.Ascending.{Up, insert-up, ascending-up, insert-grows}
 use Rattle.sets.specs.Front.{Front}
-use Rattle.sets.proofs.Callers.{front-none, front-same, front-take, front-length, front-more, insert-grows}
+use Rattle.sets.proofs.Callers.{front-none, front-same, front-take, front-length, front-more}
 use Rattle.cuts.specs.Codes.{cutCode, wordCuts, cutCodes, added}
 
 -- NUMBERS PUT IN

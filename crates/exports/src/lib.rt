@@ -5,7 +5,7 @@ ghost use Prim.Native.Nat.{_≤_};
 ghost use lib.ListN.{length, drop};
 ghost use Rattle.meaning.specs.Doors.{stepReply, stepSpace, outlookReply, outlookSpace, whyReply, whySpace};
 ghost use Rattle.meaning.specs.Desk.{deskOutput};
-ghost use Rattle.meaning.specs.Clerk.{whyOutput};
+ghost use Rattle.meaning.specs.Clerk.{whyOutput, cardOutput, outlookOutput, checkOutput, blankOutput};
 ghost use Rattle.reply.specs.Answers.{asReply};
 ghost use Rattle.exports.specs.Exports.{numbers, withPlaces, numberTold, placesTold, withRoom};
 use reply::Reply;
@@ -107,4 +107,52 @@ pub extern "C" fn reambodkin_clerk_why(input: &[u8], out: &mut [u8]) -> usize
         return 0;
     }
     readout::why_output(input, out)
+}
+
+// The same with the word `card`; here 1,024 bytes are enough.
+#[no_mangle]
+pub extern "C" fn reambodkin_clerk_card(input: &[u8], out: &mut [u8]) -> usize
+    ensures answer { λ r. ⌜ r ≡ withRoom 1024 (now (out .entry)) (length (cardOutput (now (input .entry)))) 0 ⌝ }
+    ensures space { λ r. ⌜ now (out .exit) ≡ withRoom 1024 (now (out .entry)) (cardOutput (now (input .entry)) ++ drop (length (cardOutput (now (input .entry)))) (now (out .entry))) (now (out .entry)) ⌝ }
+{
+    if out.len() < 1024 {
+        return 0;
+    }
+    cardout::card_output(input, out)
+}
+
+// With the word `outlook`; here fewer than 1,900,544 bytes are too few.
+#[no_mangle]
+pub extern "C" fn reambodkin_clerk_outlook(input: &[u8], out: &mut [u8]) -> usize
+    ensures answer { λ r. ⌜ r ≡ withRoom 1900544 (now (out .entry)) (length (outlookOutput (now (input .entry)))) 0 ⌝ }
+    ensures space { λ r. ⌜ now (out .exit) ≡ withRoom 1900544 (now (out .entry)) (outlookOutput (now (input .entry)) ++ drop (length (outlookOutput (now (input .entry)))) (now (out .entry))) (now (out .entry)) ⌝ }
+{
+    if out.len() < 1900544 {
+        return 0;
+    }
+    lookout::outlook_output(input, out)
+}
+
+// With the word `check`, for a sheet alone; here 8,192 bytes are enough.
+#[no_mangle]
+pub extern "C" fn reambodkin_clerk_check(input: &[u8], out: &mut [u8]) -> usize
+    ensures answer { λ r. ⌜ r ≡ withRoom 8192 (now (out .entry)) (length (checkOutput (now (input .entry)))) 0 ⌝ }
+    ensures space { λ r. ⌜ now (out .exit) ≡ withRoom 8192 (now (out .entry)) (checkOutput (now (input .entry)) ++ drop (length (checkOutput (now (input .entry)))) (now (out .entry))) (now (out .entry)) ⌝ }
+{
+    if out.len() < 8192 {
+        return 0;
+    }
+    checkup::check_output(input, out)
+}
+
+// With the word `blank`, for a sheet alone; here 1,024 bytes are enough.
+#[no_mangle]
+pub extern "C" fn reambodkin_clerk_blank(input: &[u8], out: &mut [u8]) -> usize
+    ensures answer { λ r. ⌜ r ≡ withRoom 1024 (now (out .entry)) (length (blankOutput (now (input .entry)))) 0 ⌝ }
+    ensures space { λ r. ⌜ now (out .exit) ≡ withRoom 1024 (now (out .entry)) (blankOutput (now (input .entry)) ++ drop (length (blankOutput (now (input .entry)))) (now (out .entry))) (now (out .entry)) ⌝ }
+{
+    if out.len() < 1024 {
+        return 0;
+    }
+    checkup::blank_output(input, out)
 }

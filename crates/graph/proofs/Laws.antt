@@ -1,5 +1,5 @@
 -- What the functions add, in return form: the premises are what is known at a place, the conclusion is what is asked there.
-use Prim.Native.Nat.{ℕ, zero, suc, _+_, _-_, _*_, _/_, _%_, _≤_, _<_}
+use Prim.Native.Nat.{ℕ, zero, suc, _+_, _-_, _*_, _/_, _%_, _^_, _≤_, _<_}
 use mathlib.Core.Path.{_≡_, refl, sym, _∙_, ap, ap₂, subst}
 use mathlib.Core.Bool.{Bool, true, false, cond, _&&_, _||_}
 use mathlib.Core.List.{List, [], _∷_, _++_, map}
@@ -7,22 +7,26 @@ use native.Mathlib.Omega.{arith}
 use native.Mathlib.Numerals.{add-one}
 use native.Mathlib.Decide.{ℕ-discrete}
 use lib.Dec.{eqb, ltb}
-use lib.ListN.{length, getD, take, drop, set, replicate, length-set, length-drop, length-map}
-use lib.Seq.{take-all, take-suc, getD-drop, getD-set-same, getD-set-other}
+use lib.ListN.{length, getD, take, drop, set, replicate, length-set, length-drop, length-map, drop-of-length-le}
+use lib.Seq.{take-all, take-nil, take-suc, drop-cons, getD-drop, getD-set-same, getD-set-other}
 use borrow.Author.Tests.{eq-eqb, ne-eqb, lt-ltb, le-ltb, le-leb, lt-leb}
 use Rattle.meaning.specs.Text.{any, isIn, keep, joined}
 use Rattle.meaning.specs.Graph.{Into, edge, orderFor}
+use Rattle.meaning.specs.Circle.{circleFor}
 use Rattle.meaning.specs.Tests.{up, down, both}
 use Rattle.theory.specs.Lists.{joined-both, joined-one, keep-append}
 use Rattle.order.specs.declared.Sorting.{Sorting}
-use Rattle.order.specs.Masks.{has, maskInto, withBit}
+use Rattle.order.specs.Masks.{bitAt, has, maskInto, withBit}
 use Rattle.order.specs.Answers.{asSorting}
 use Rattle.order.proofs.Callers.{has-with, edges-none, sort-same}
+use Rattle.circle.specs.declared.Circle.{Circle}
+use Rattle.circle.specs.Answers.{asCircle}
+use Rattle.circle.proofs.Callers.{find-same}
 use Rattle.trigger.specs.declared.Trigger.{Trigger}
 use Rattle.trigger.specs.declared.Trigger.the-variants.{Always, Event, Rise, Fall}
 use Rattle.tests.specs.declared.Test.{Test}
 use Rattle.tests.specs.Table.{rowsFor}
-use Rattle.graph.specs.Edges.{triggerNodes, wordNodes, homeNodes, testNodes, testsInto}
+use Rattle.graph.specs.Edges.{triggerNodes, wordNodes, homeNodes, testNodes, testsInto, lineFrom}
 use Rattle.graph.specs.Added.{toward, Added}
 
 -- ADDING: nothing, and these edges and then those
@@ -309,13 +313,88 @@ module _ (words : List ℕ) (rows : List Test) (count : ℕ) (was : List ℕ) wh
 
 pub ruleset adding = (adding-start, adding-long, adding-out, adding-next, adding-end)
 
--- THE ORDER
+-- THE ORDER, AND THE CIRCLE: the masks have the graph's edges, and only these decide
 
-pub order-of : (words : List ℕ) (rows : List Test) (statuses : ℕ) (is : List ℕ) (r : Sorting) → statuses ≤ 32 → Added (testsInto words rows) (replicate 64 0) is
-    → r ≡ asSorting (orderFor (statuses * 2) (maskInto is)) → r ≡ asSorting (orderFor (statuses * 2) (testsInto words rows))
-unfolding edge
-order-of words rows statuses is r h a e =
-    sort-same is (statuses * 2) (testsInto words rows) r (omega arith)
-    (λ p k c d. a .edges p k (omega arith) (omega arith) ∙ ap (λ t. t || isIn p (testsInto words rows k)) (edges-none 64 p k)) e
+module _ (words : List ℕ) (rows : List Test) (statuses : ℕ) (is : List ℕ) (few : statuses ≤ 32) (a : Added (testsInto words rows) (replicate 64 0) is) where
+  alike : (p k : ℕ) → p < statuses * 2 → k < statuses * 2 → has (getD is k 0) p ≡ edge (testsInto words rows) p k
+  unfolding edge
+  alike p k c d = a .edges p k (omega arith) (omega arith) ∙ ap (λ t. t || isIn p (testsInto words rows k)) (edges-none 64 p k)
+
+  pub order-of : (r : Sorting) → r ≡ asSorting (orderFor (statuses * 2) (maskInto is)) → r ≡ asSorting (orderFor (statuses * 2) (testsInto words rows))
+  order-of r = sort-same is (statuses * 2) (testsInto words rows) r (omega arith) alike
+
+  pub circle-of : (r : Circle) → r ≡ asCircle (circleFor (statuses * 2) (maskInto is)) → r ≡ asCircle (circleFor (statuses * 2) (testsInto words rows))
+  circle-of r = find-same is (statuses * 2) (testsInto words rows) r (omega arith) alike
 
 pub ruleset ordering = (order-of)
+
+pub ruleset circling = (circle-of)
+
+-- THE LINE OF AN EDGE
+
+-- a test alone in a graph
+pub gives-is : (words : List ℕ) (t : Test) (p k : ℕ) (is : List ℕ) → p < 64 → k < 64 → Added (toward (t .node) (testNodes words t)) (replicate 64 0) is
+    → eqb (getD is k 0 / 2 ^ p % 2) 1 ≡ eqb (t .node) k && isIn p (testNodes words t)
+unfolding has bitAt toward any
+gives-is words t p k is g h a =
+    a .edges p k g h ∙ ap (λ b. b || isIn p (toward (t .node) (testNodes words t) k)) (edges-none 64 p k) ∙ go (eqb (t .node) k)
+  where
+    go : (b : Bool) → isIn p (cond b (testNodes words t) []) ≡ b && isIn p (testNodes words t)
+    go true = refl
+    go false = refl
+
+pub ruleset giving = (gives-is)
+
+-- the rows from the cursor on decide
+pub record Lining (words : List ℕ) (rows : List Test) (count p k i : ℕ) : Type 0 where
+  pub held : length rows ≡ 160
+  pub within : i ≤ count
+  pub same : lineFrom words (take count rows) p k ≡ lineFrom words (take (count - i) (drop i rows)) p k
+
+module _ (words : List ℕ) (rows : List Test) (count p k : ℕ) where
+  pub lining-start : {B : Type 0} (f : Test → B) → length (map f rows) ≡ 160 → Lining words rows count p k 0
+  lining-start f h =
+      let z : count ≡ count - 0 = omega arith in
+      record { held = sym (length-map rows f) ∙ h; within = omega arith; same = ap (λ m. lineFrom words (take m rows) p k) z }
+
+  module _ (i : ℕ) (s : Lining words rows count p k i) where
+    pub lining-out : i < count → 160 ≤ i → 0 ≡ lineFrom words (take count rows) p k
+    unfolding lineFrom
+    lining-out h l =
+        let n : length rows ≡ 160 = s .held in
+        let z : length rows ≤ i = omega arith in
+        sym (s .same ∙ ap (λ ts. lineFrom words ts p k) (ap (take (count - i)) (drop-of-length-le rows z) ∙ take-nil (count - i)))
+
+    pub lining-end : count ≤ i → 0 ≡ lineFrom words (take count rows) p k
+    unfolding lineFrom
+    lining-end h =
+        let z : count - i ≡ 0 = omega arith in
+        sym (s .same ∙ ap (λ m. lineFrom words (take m (drop i rows)) p k) z)
+
+    module _ (d : Test) (h : i < count) (l : i < 160) where
+      -- the row at the cursor, whether it gives the edge, and its line or what those behind it give
+      abbrev gives : Bool
+      gives = eqb (getD rows i d .node) k && isIn p (testNodes words (getD rows i d))
+
+      abbrev lineBy : Bool → ℕ
+      lineBy b = cond b (getD rows i d .line) (lineFrom words (take (count - (i + 1)) (drop (i + 1) rows)) p k)
+
+      one-more : lineFrom words (take count rows) p k ≡ lineBy gives
+      unfolding lineFrom
+      one-more =
+          let n : length rows ≡ 160 = s .held in
+          let z : count - i ≡ suc (count - (i + 1)) = omega arith in
+          s .same ∙ ap₂ (λ m ts. lineFrom words (take m ts) p k) z (drop-cons rows i d (omega arith) ∙ ap (λ m. getD rows i d ∷ drop m rows) (sym (add-one i)))
+
+      pub lining-found : (b : Bool) → b ≡ gives → b ≡ true → (r : ℕ) → r ≡ getD rows i d .line → r ≡ lineFrom words (take count rows) p k
+      lining-found b e t r g = g ∙ sym (one-more ∙ ap lineBy (sym e ∙ t))
+
+      pub lining-next : (b : Bool) → b ≡ gives → b ≡ false → (j : ℕ) → j ≡ i + 1 → Lining words rows count p k j
+      lining-next b e t j z =
+          record {
+            held = s .held;
+            within = omega arith;
+            same = one-more ∙ ap lineBy (sym e ∙ t) ∙ ap (λ m. lineFrom words (take (count - m) (drop m rows)) p k) (sym z);
+          }
+
+pub ruleset lining = (lining-start, lining-out, lining-found, lining-next, lining-end)

@@ -2,9 +2,9 @@
 use Prim.Native.Nat.{ℕ, zero, suc, _-_, _/_, _%_}
 use mathlib.Core.Bool.{cond, _&&_}
 use mathlib.Core.List.{List, [], _∷_, _++_}
-use lib.Dec.{leb, ltb}
+use lib.Dec.{eqb, leb, ltb}
 use lib.ListN.{take, drop}
-use Rattle.meaning.specs.Text.{joined}
+use Rattle.meaning.specs.Text.{isIn, joined}
 use Rattle.meaning.specs.Graph.{Into}
 use Rattle.meaning.specs.Tests.{up, down, both}
 use Rattle.trigger.specs.declared.Trigger.{Trigger}
@@ -35,3 +35,8 @@ testNodes words t = triggerNodes (t .trigger) ++ joined wordNodes (take (t .to -
 -- the graph of the rows
 unfoldable pub testsInto : List ℕ → List Test → Into
 testsInto words rows k = joined (testNodes words) (rowsFor rows k)
+
+-- the line of the first test of the node k that gives an edge from p; 0 where none does, or an implied one
+unfoldable pub lineFrom : List ℕ → List Test → ℕ → ℕ → ℕ
+lineFrom words [] p k = 0
+lineFrom words (t ∷ ts) p k = cond (eqb (t .node) k && isIn p (testNodes words t)) (t .line) (lineFrom words ts p k)

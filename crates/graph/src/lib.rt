@@ -1,15 +1,20 @@
-// The dependency graph of some tests, and their testing order. The graph is 64 masks: bit p of mask k is the edge from node p to node k.
+// The dependency graph of some tests: their testing order, a circle, and the line of an edge.
+// The graph is 64 masks: bit p of mask k is the edge from node p to node k.
 ghost use mathlib.Core.Path.{_≡_};
-ghost use mathlib.Core.Bool.{cond};
+ghost use mathlib.Core.Bool.{cond, _&&_};
 ghost use mathlib.Core.List.{[], _∷_};
 ghost use Prim.Native.Nat.{_-_, _*_, _≤_, _<_};
+ghost use lib.Dec.{eqb};
 ghost use lib.ListN.{length, take, drop};
-ghost use Rattle.meaning.specs.Text.{joined};
+ghost use Rattle.meaning.specs.Text.{isIn, joined};
 ghost use Rattle.meaning.specs.Graph.{orderFor};
+ghost use Rattle.meaning.specs.Circle.{circleFor};
 ghost use Rattle.meaning.specs.Tests.{up, down, both};
 ghost use Rattle.order.specs.Answers.{asSorting};
-ghost use Rattle.graph.specs.Edges.{triggerNodes, wordNodes, homeNodes, testNodes, testsInto};
+ghost use Rattle.circle.specs.Answers.{asCircle};
+ghost use Rattle.graph.specs.Edges.{triggerNodes, wordNodes, homeNodes, testNodes, testsInto, lineFrom};
 ghost use Rattle.graph.specs.Added.{Added, toward};
+use circle::Circle;
 use order::Sorting;
 use tests::Test;
 use tests::Tests;
@@ -22,7 +27,7 @@ fn wide(x: u8) -> usize
     x as usize
 }
 
-// Where a word stands, as an index.
+// Where a word stands, or a line, as an index.
 fn place(x: u16) -> usize
     ensures { λ r. ⌜ r ≡ x ⌝ }
 {
@@ -150,4 +155,44 @@ pub fn testing_order(tests: Tests, words: &[u64], statuses: usize) -> Sorting
     let mut masks = [0u64; 64];
     add_tests(&mut masks, words, tests);
     order::sort(&masks, statuses * 2)
+}
+
+// The circle of the tests' graph, over so many statuses; none where it has a testing order.
+pub fn circle_of(tests: Tests, words: &[u64], statuses: usize) -> Circle
+    requires { ⌜ statuses ≤ 32 ⌝ }
+    ensures { λ r. ⌜ r ≡ asCircle (circleFor (statuses * 2) (testsInto (now (words .entry)) (take (tests .count) (tests .rows)))) ⌝ }
+{
+    let mut masks = [0u64; 64];
+    add_tests(&mut masks, words, tests);
+    circle::find(&masks, statuses * 2)
+}
+
+// Whether a test gives the edge from p to k: alone in a graph it has that edge.
+fn gives_edge(words: &[u64], t: Test, p: usize, k: usize) -> bool
+    requires { ⌜ (p < 64) × (k < 64) ⌝ }
+    ensures { λ r. ⌜ r ≡ eqb (t .node) k && isIn p (testNodes (now (words .entry)) t) ⌝ }
+{
+    let mut masks = [0u64; 64];
+    add_test(&mut masks, words, t);
+    (masks[k] >> p) % 2 == 1
+}
+
+// The line of the first test of the node k that gives an edge from p; 0 where none does, or an implied one.
+pub fn edge_line(tests: Tests, words: &[u64], p: usize, k: usize) -> usize
+    requires { ⌜ (p < 64) × (k < 64) ⌝ }
+    ensures { λ r. ⌜ r ≡ lineFrom (now (words .entry)) (take (tests .count) (tests .rows)) p k ⌝ }
+{
+    let count = tests.count;
+    let mut i = 0;
+    while i < count {
+        if 160 <= i {
+            return 0;
+        }
+        let t = tests.rows[i];
+        if gives_edge(words, t, p, k) {
+            return place(t.line);
+        }
+        i += 1;
+    }
+    0
 }

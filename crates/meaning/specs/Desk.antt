@@ -35,6 +35,11 @@ afterPaper s = drop (paperLength true s) s
 unfoldable pub refusalText : ℕ → ℕ → ℕ → List ℕ
 refusalText n p l = line (text "refused") (decimal n ++ text " " ++ decimal p ++ text " " ++ decimal l)
 
+-- "It prints `refused=NUMBER PAPER LINE`, or" what a program makes of what was taken
+abbrev pub orRefusal : {A : Type 0} → (A → List ℕ) → Answer A → List ℕ
+orRefusal print (taken a) = print a
+orRefusal print (refused n p l) = refusalText n p l
+
 -- "a line `start=NAME` for each task"
 unfoldable pub startLines : List Status → List Bool → List ℕ
 startLines [] bs = []
@@ -47,10 +52,9 @@ unfoldable pub outlookLines : Answer (List ℕ) → List ℕ
 outlookLines (taken ps) = joined (λ p. line (text "outlook") (decimal p)) ps
 outlookLines (refused n p l) = line (text "outlook") (text "refused")
 
--- "It prints `refused=NUMBER PAPER LINE`, or the next card, a line `start=NAME` for each task, and" the outlook
+-- "or the next card, a line `start=NAME` for each task, and" the outlook
 unfoldable pub printed : Answer Case → List ℕ
-printed (refused n p l) = refusalText n p l
-printed (taken c) = next c .card ++ startLines (c .sheet .heads .stages) (next c .tasks) ++ outlookLines (outlook c)
+printed x = orRefusal (λ c. next c .card ++ startLines (c .sheet .heads .stages) (next c .tasks) ++ outlookLines (outlook c)) x
 
 -- "It reads the sheet .., the card .., and takes the rest as the event. .. Over 34,304 bytes: LONG, paper 0, line 0"; what is printed for the papers is the program's
 abbrev pub onPapers : (List ℕ → List ℕ → List ℕ → List ℕ) → List ℕ → List ℕ

@@ -18,8 +18,10 @@ pub mod Card
 pub mod Graph
 pub mod Tests
 pub mod Dependency
+pub mod Circle
 pub mod Step
 pub mod Outlook
+pub mod Prospect
 pub mod Why
 pub mod Write
 -- The three requests and the two programs:

@@ -1,20 +1,24 @@
--- What a caller may conclude: on the tables of a case that was read, the marks are those to which its testing order leads, the text is the next card, and the answer is the step's.
-use Prim.Native.Nat.{ℕ, _-_}
+-- What a caller may conclude: on the tables of a case that was read, the marks are those to which its testing order leads, the text is the next card,
+-- and the answer is the step's; and what the reply tells of any tables.
+use Prim.Native.Nat.{ℕ, _+_, _-_, _≤_}
 use mathlib.Core.Path.{_≡_, refl, sym, _∙_, ap, subst}
 use mathlib.Core.Bool.{Bool, true, false, cond}
 use mathlib.Core.List.{List, _++_, map}
 use native.Mathlib.Omega.{arith}
+use borrow.Author.Tests.{le-leb}
 use lib.Dec.{leb}
 use lib.ListN.{length, drop, replicate}
 use Rattle.meaning.specs.Refusal.{taken, refused, ROOM}
 use Rattle.meaning.specs.Sheet as M
 use Rattle.meaning.specs.Sheet.{statuses}
-use Rattle.meaning.specs.Step.{moment, pattern}
+use Rattle.meaning.specs.Step.{moment, putIn, pattern}
 use Rattle.meaning.specs.Doors.{Case, readCase, Next, next, fitting, replied, written}
 use Rattle.theory.specs.Formed.{Each}
 use Rattle.theory.specs.Cards.{PutIn}
 use Rattle.theory.specs.Papers.{Papers, case-holds, Apart, case-apart}
 use Rattle.theory.specs.Cases.{at, after, case-meets}
+use Rattle.theory.specs.Accepted.{card-length, case-entries}
+use Rattle.reply.specs.declared.Reply.{Reply}
 use Rattle.reply.specs.Answers.{asReply, refusedReply}
 use Rattle.tables.specs.Heads.{padded, asHeads}
 use Rattle.tables.proofs.Tables.{heads-again}
@@ -28,6 +32,7 @@ use Rattle.test.specs.Codes.{marked}
 use Rattle.step.specs.Run.{runOver}
 use Rattle.step.proofs.Callers.{order-leads}
 use Rattle.moment.proofs.Callers.{moment-is, tasks-are}
+use Rattle.space.specs.Answers.{Wrote}
 use Rattle.write.specs.Texts.{nextText}
 use Rattle.write.specs.Answers.{spaceWith}
 use Rattle.write.proofs.Callers.{next-after}
@@ -81,6 +86,13 @@ module _ (s c e : List ℕ) (k : Case) (q : readCase s c e ≡ taken k) where
       ∙ ap (nextText hd e c happened given) after-marks
       ∙ next-after hd (papers .well .heads) c e (k .card) (k .happening) (apart .card) (apart .event) given happened refl refl (after k) after-long
 
+  -- which is not long
+  pub next-few : length (next k .card) ≤ 969
+  unfolding next moment
+  next-few =
+      let (many, proper) = case-entries k papers in
+      card-length hd (papers .well .heads) (putIn (k .happening .puts) (k .card .entries)) (after k) many after-long proper
+
   -- and the tasks are those started
   pub tasks-after : tasksAfter a given happened ≡ pattern (next k .tasks)
   unfolding tasksAfter next moment asHeads asCard
@@ -105,3 +117,20 @@ module _ (s c e : List ℕ) (k : Case) (q : readCase s c e ≡ taken k) where
       go : (b : Bool) → cond b (next k .card ++ drop (length (next k .card)) lent) lent ≡ written (λ (n : Next). n .card) lent (cond b (taken (next k)) (refused ROOM 0 0))
       go true = refl
       go false = refl
+
+-- WHAT THE REPLY TELLS, where the card fits; whatever the tables hold
+
+module _ (a : Accepted) (given : Card) (happened : Happening) (c e o : List ℕ) (few : length (textAfter a given happened c e) ≤ length o)
+    (o1 : List ℕ) (r : Reply) (answer : r ≡ replyAfter a given happened c e (length o)) (space : o1 ≡ spaceWith o (textAfter a given happened c e)) where
+  fits : leb (length (textAfter a given happened c e)) (length o) ≡ true
+  fits = le-leb (length (textAfter a given happened c e)) (length o) few
+
+  pub reply-stepped : r ≡ record { number = 0; paper = 0; line = 0; count = length (textAfter a given happened c e); tasks = tasksAfter a given happened }
+  unfolding replyAfter
+  reply-stepped = answer ∙ rw fits
+
+  pub card-written : Wrote 0 (textAfter a given happened c e) o o1 (r .count)
+  unfolding spaceWith
+  card-written =
+      let z : 0 + length (textAfter a given happened c e) ≡ length (textAfter a given happened c e) = omega arith in
+      record { space = rw z (space ∙ rw fits); next = rw z (ap (λ (r : Reply). r .count) reply-stepped) }

@@ -1,17 +1,14 @@
 -- What a caller may conclude: how the masks of a graph are built, that only the edges decide the order, and what the answer says.
-use Prim.Native.Nat.{ℕ, zero, suc, _*_, _%_, _^_, _-_, _≤_, _<_}
-use mathlib.Core.Path.{_≡_, refl, sym, _∙_, ap, ap₂, subst}
-use mathlib.Core.Bool.{Bool, true, false, _&&_, _||_, true≢false, false≢true}
+use Prim.Native.Nat.{ℕ, zero, suc, _-_, _≤_, _<_}
+use mathlib.Core.Path.{_≡_, refl, sym, _∙_, ap, ap₂}
+use mathlib.Core.Bool.{true, false, _&&_, _||_, true≢false, false≢true}
 use mathlib.Core.List.{List, [], _∷_}
 use mathlib.Core.Logic.{inl, inr}
 use mathlib.Core.Option.{Option, none, some}
 use native.Mathlib.Omega.{arith}
-use native.Mathlib.Decide.{ℕ-discrete}
 use lib.Dec.{eqb, ltb}
-use lib.ListN.{length, getD, take, set, replicate}
-use lib.Seq.{take-at, getD-set-same, getD-set-other}
-use lib.Bits.{bitOr}
-use borrow.Author.Tests.{eq-eqb, ne-eqb, lt-ltb}
+use lib.ListN.{length, getD, take, replicate}
+use lib.Seq.{take-at}
 use Rattle.meaning.specs.Text.{In, any, isIn, from}
 use Rattle.meaning.specs.Graph.{Into, edge, waits, firstFree, without, then, first, orderOf, orderFor}
 use Rattle.theory.specs.Lists.{in-any, any-same, is-in, in-is, common, without-in, from-in}
@@ -56,28 +53,34 @@ any-flip xs ys = same-test (any (λ p. isIn p ys) xs) (any (λ p. isIn p xs) ys)
     swap : (xs ys : List ℕ) → any (λ p. isIn p ys) xs ≡ true → any (λ p. isIn p xs) ys ≡ true
     swap xs ys t = let (p, m, e) = common xs ys t in in-any (λ p. isIn p xs) p ys m e
 
-module _ (n : ℕ) (into ino : Into) (alike : (p k : ℕ) → p < n → k < n → edge into p k ≡ edge ino p k) where
-  -- all of them below n
-  abbrev Below : List ℕ → Type 0
-  Below l = (k : ℕ) → In k l → k < n
+-- all of them below n
+abbrev pub Below : ℕ → List ℕ → Type 0
+Below n l = (k : ℕ) → In k l → k < n
 
-  waits-same : (left : List ℕ) (k : ℕ) → Below left → k < n → waits into left k ≡ waits ino left k
+pub below-without : (n k : ℕ) (left : List ℕ) → Below n left → Below n (without k left)
+below-without n k left b j h = b j (without-in j k left h .0)
+
+pub below-from : (n : ℕ) → Below n (from 0 n)
+below-from n k m = let h = from-in n 0 k m .1 in omega arith
+
+module _ (n : ℕ) (into ino : Into) (alike : (p k : ℕ) → p < n → k < n → edge into p k ≡ edge ino p k) where
+  waits-same : (left : List ℕ) (k : ℕ) → Below n left → k < n → waits into left k ≡ waits ino left k
   unfolding waits edge
   waits-same left k b h =
       any-flip (into k) left ∙ any-same (λ p. isIn p (into k)) (λ p. isIn p (ino k)) left (λ p m. alike p k (b p m) h) ∙ any-flip left (ino k)
 
-  free-same : (left ks : List ℕ) → Below left → Below ks → firstFree into left ks ≡ firstFree ino left ks
+  pub free-same : (left ks : List ℕ) → Below n left → Below n ks → firstFree into left ks ≡ firstFree ino left ks
   unfolding firstFree
   free-same left [] b c = refl
   free-same left (k ∷ ks) b c =
       ap₂ (λ w f. elim w [ true ↦ f | false ↦ some k ]) (waits-same left k b (c k (inl refl))) (free-same left ks b (λ j m. c j (inr m)))
 
-  of-same : (m : ℕ) (left : List ℕ) → Below left → orderOf into m left ≡ orderOf ino m left
+  of-same : (m : ℕ) (left : List ℕ) → Below n left → orderOf into m left ≡ orderOf ino m left
   unfolding orderOf
   of-same zero left b = refl
   of-same (suc m) left b =
       ap (λ f. first f (λ k. orderOf into m (without k left))) (free-same left left b b)
-      ∙ rest (firstFree ino left left) (λ k. of-same m (without k left) (λ j h. b j (without-in j k left h .0)))
+      ∙ rest (firstFree ino left left) (λ k. of-same m (without k left) (below-without n k left b))
     where
       rest : (f : Option ℕ) → ((k : ℕ) → orderOf into m (without k left) ≡ orderOf ino m (without k left))
           → first f (λ k. orderOf into m (without k left)) ≡ first f (λ k. orderOf ino m (without k left))
@@ -86,7 +89,7 @@ module _ (n : ℕ) (into ino : Into) (alike : (p k : ℕ) → p < n → k < n �
 
   pub order-same : orderFor n into ≡ orderFor n ino
   unfolding orderFor
-  order-same = of-same n (from 0 n) (λ k m. let h = from-in n 0 k m .1 in omega arith)
+  order-same = of-same n (from 0 n) (below-from n)
 
 -- so masks that have a graph's edges give its order
 pub sort-same : (masks : List ℕ) (n : ℕ) (into : Into) (r : Sorting) → n ≤ 64 → ((p k : ℕ) → p < n → k < n → has (getD masks k 0) p ≡ edge into p k)

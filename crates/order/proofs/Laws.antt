@@ -15,7 +15,7 @@ use lib.Seq.{take-suc-set, drop-set-lt, append-snoc}
 use lib.Pow.{pow-lt, pow-pos}
 use lib.Bits.{bitAnd, bitOr, bitXor, xor-lt}
 use borrow.Author.Tests.{lt-ltb, le-ltb, not-true}
-use Rattle.meaning.specs.Text.{In, keep, from}
+use Rattle.meaning.specs.Text.{In}
 use Rattle.meaning.specs.Graph.{Into, waits, firstFree, without, then, first, orderOf, orderFor}
 use Rattle.order.specs.declared.Sorting.{Sorting}
 use Rattle.order.specs.declared.Free.{Free}
@@ -23,8 +23,8 @@ use Rattle.order.specs.declared.Free.the-variants.{Node, Stuck}
 use Rattle.order.specs.Masks.{bitAt, has, members, maskInto, meet, withBit}
 use Rattle.order.specs.Answers.{asSorting, asFree}
 use Rattle.order.proofs.Bits.{shifted, has-or, has-below}
-use Rattle.order.proofs.Members.{and-left, and-right, keep-yes, keep-no, membersFrom, member-has}
-use Rattle.order.proofs.Members.{members-all, members-step, members-end, members-full, members-without, meet-and}
+use Rattle.order.proofs.Members.{and-left, and-right, membersFrom, member-has}
+use Rattle.order.proofs.Members.{members-all, members-here, members-past, members-end, members-full, members-without, meet-and}
 
 -- A MASK WITH ONE MORE NODE
 
@@ -134,22 +134,18 @@ module _ (masks : List ℕ) (left n : ℕ) where
   seek-start = record { within = omega arith; same = ap (firstFree (maskInto masks) (members left)) (members-all left) }
 
   module _ (i : ℕ) (s : Seeking masks left n i) where
-    -- the node at the cursor, and those behind it
-    yes-here : i < 64 → has left i ≡ true → membersFrom i left ≡ i ∷ membersFrom (i + 1) left
-    yes-here h t = ap (keep (has left)) (members-step left i h) ∙ keep-yes (has left) i (from (i + 1) (64 - (i + 1))) t
-
-    no-here : i < 64 → has left i ≡ false → membersFrom i left ≡ membersFrom (i + 1) left
-    no-here h t = ap (keep (has left)) (members-step left i h) ∙ keep-no (has left) i (from (i + 1) (64 - (i + 1))) t
-
     taken : i < 64 → has left i ≡ true → meet (getD masks i 0) left ≡ false → freeFrom masks left i ≡ some i
     unfolding waits meet maskInto
-    taken h t w = ap (firstFree (maskInto masks) (members left)) (yes-here h t) ∙ free-here (maskInto masks) (members left) i (membersFrom (i + 1) left) w
+    taken h t w =
+        ap (firstFree (maskInto masks) (members left)) (members-here left i h t) ∙ free-here (maskInto masks) (members left) i (membersFrom (i + 1) left) w
 
     passed : i < 64 → (a c : Bool) → has left i ≡ a → meet (getD masks i 0) left ≡ c → a && not c ≡ false → freeFrom masks left i ≡ freeFrom masks left (i + 1)
     unfolding waits meet maskInto
-    passed h true true t w q = ap (firstFree (maskInto masks) (members left)) (yes-here h t) ∙ free-waits (maskInto masks) (members left) i (membersFrom (i + 1) left) w
+    passed h true true t w q =
+        ap (firstFree (maskInto masks) (members left)) (members-here left i h t)
+        ∙ free-waits (maskInto masks) (members left) i (membersFrom (i + 1) left) w
     passed h true false t w q = absurd (true≢false q)
-    passed h false c t w q = ap (firstFree (maskInto masks) (members left)) (no-here h t)
+    passed h false c t w q = ap (firstFree (maskInto masks) (members left)) (members-past left i h t)
 
     pub seek-found : (b : Bool) → n ≤ 64 → i < n → b ≡ has left i && not (meet (getD masks i 0) left) → b ≡ true → Node i ≡ asFree (freeOf masks left)
     seek-found b h l e t =
@@ -171,6 +167,38 @@ module _ (masks : List ℕ) (left n : ℕ) where
 
 pub ruleset seeking = (seek-start, seek-found, seek-next, seek-end)
 
+-- WHAT THE SEARCH ANSWERED
+
+abbrev pub nodeOf : Free → Option ℕ
+nodeOf (Node k) = some k
+nodeOf Stuck = none
+
+pub answered : (f : Option ℕ) (p : Free) → p ≡ asFree f → f ≡ nodeOf p
+answered none p e = sym (ap nodeOf e)
+answered (some k) p e = sym (ap nodeOf e)
+
+-- a node was found: it is in the mask, and the mask without it has the others
+module _ (masks : List ℕ) (left n : ℕ) (below : left < 2 ^ n) (p : Free) (k : ℕ) (e : p ≡ asFree (freeOf masks left)) (t : p ≡ Node k) where
+  pub node-is : freeOf masks left ≡ some k
+  node-is = answered (freeOf masks left) p e ∙ ap nodeOf t
+
+  node-has : has left k ≡ true
+  node-has = member-has left k (subst (Among (members left)) node-is (free-among (maskInto masks) (members left) (members left)))
+
+  pub node-below : k < n
+  node-below = has-below left n k below node-has
+
+  -- as the code takes it out
+  module _ (h : n ≤ 64) (left′ : ℕ) (is : left′ ≡ bitXor left (1 * 2 ^ k % 18446744073709551616)) where
+    without-is : left′ ≡ bitXor left (2 ^ k)
+    without-is = is ∙ ap (bitXor left) (shifted k (omega (arith, node-below)))
+
+    pub without-below : left′ < 2 ^ n
+    without-below = rw without-is (xor-lt n left (2 ^ k) below (pow-lt node-below))
+
+    pub without-members : without k (members left) ≡ members left′
+    without-members = members-without left k node-has ∙ ap members (sym without-is)
+
 -- THE ORDER: that of the nodes left, written behind what stands there, gives the whole
 
 -- the answer for an order that is written from the place len on
@@ -183,15 +211,6 @@ pub record Going (masks : List ℕ) (n left : ℕ) (order : List ℕ) (len : ℕ
   pub below : left < 2 ^ n
   pub held : length order ≡ 64
   pub same : asSorting (orderFor n (maskInto masks)) ≡ placed len order (orderOf (maskInto masks) (n - len) (members left))
-
--- what the search answered
-abbrev nodeOf : Free → Option ℕ
-nodeOf (Node k) = some k
-nodeOf Stuck = none
-
-answered : (f : Option ℕ) (p : Free) → p ≡ asFree f → f ≡ nodeOf p
-answered none p e = sym (ap nodeOf e)
-answered (some k) p e = sym (ap nodeOf e)
 
 blank : (n m : ℕ) → replicate {A = ℕ} (m - n) 0 ≡ drop n (replicate m 0)
 blank zero m = ap (λ k. replicate k 0) (sub-zero m)
@@ -258,36 +277,30 @@ module _ (masks : List ℕ) (n : ℕ) where
         → _≡_ {A = Sorting} (record { found = false; order = replicate 64 0 }) (asSorting (orderFor n (maskInto masks)))
     going-stuck p l e t = sym (one-left l ∙ ap (λ f. placed len order (onward f)) (answered (freeOf masks left) p e ∙ ap nodeOf t))
 
-    -- a node was found: it is in the mask
+    -- a node was found
     module _ (p : Free) (k : ℕ) (e : p ≡ asFree (freeOf masks left)) (t : p ≡ Node k) (h : n ≤ 64) where
-      node-is : freeOf masks left ≡ some k
-      node-is = answered (freeOf masks left) p e ∙ ap nodeOf t
-
-      node-has : has left k ≡ true
-      node-has = member-has left k (subst (Among (members left)) node-is (free-among (maskInto masks) (members left) (members left)))
-
-      node-below : k < n
-      node-below = has-below left n k (s .below) node-has
+      in-order : k < n
+      in-order = node-below masks left n (s .below) p k e t
 
       pub going-shifts : k < 64
-      going-shifts = omega (arith, node-below)
+      going-shifts = omega (arith, in-order)
 
       pub going-fits : Fits w8 k
-      going-fits = omega (arith, node-below)
+      going-fits = omega (arith, in-order)
 
       pub going-next : len < n → (left′ : ℕ) (order′ : List ℕ) (len′ : ℕ)
           → left′ ≡ bitXor left (1 * 2 ^ k % 18446744073709551616) → order′ ≡ set order len k → len′ ≡ len + 1 → Going masks n left′ order′ len′
       going-next l left′ order′ len′ x y z =
           let o : length order ≡ 64 = s .held in
-          let x′ : left′ ≡ bitXor left (2 ^ k) = x ∙ ap (bitXor left) (shifted k going-shifts) in
           record {
             within = omega arith;
-            below = rw x′ (xor-lt n left (2 ^ k) (s .below) (pow-lt node-below));
+            below = without-below masks left n (s .below) p k e t h left′ x;
             held = ap length y ∙ length-set order len k ∙ o;
             same = one-left l
-                ∙ ap (λ f. placed len order (onward f)) node-is
+                ∙ ap (λ f. placed len order (onward f)) (node-is masks left n (s .below) p k e t)
                 ∙ placed-more order len k (omega arith) (orderOf (maskInto masks) (n - (len + 1)) (without k (members left)))
-                ∙ ap (λ l. placed (len + 1) (set order len k) (orderOf (maskInto masks) (n - (len + 1)) l)) (members-without left k node-has ∙ ap members (sym x′))
+                ∙ ap (λ l. placed (len + 1) (set order len k) (orderOf (maskInto masks) (n - (len + 1)) l))
+                (without-members masks left n (s .below) p k e t h left′ x)
                 ∙ ap₂ (λ m r. placed m r (orderOf (maskInto masks) (n - m) (members left′))) (sym z) (sym y);
           }
 

@@ -90,6 +90,13 @@ members-step m i l =
     let z : 64 - i ≡ suc (64 - (i + 1)) = omega arith in
     ap (from i) z ∙ ap (λ j. i ∷ from j (64 - (i + 1))) (sym (add-one i))
 
+-- the node i, where the mask has it, and those behind it
+pub members-here : (m i : ℕ) → i < 64 → has m i ≡ true → membersFrom i m ≡ i ∷ membersFrom (i + 1) m
+members-here m i h t = ap (keep (has m)) (members-step m i h) ∙ keep-yes (has m) i (from (i + 1) (64 - (i + 1))) t
+
+pub members-past : (m i : ℕ) → i < 64 → has m i ≡ false → membersFrom i m ≡ membersFrom (i + 1) m
+members-past m i h t = ap (keep (has m)) (members-step m i h) ∙ keep-no (has m) i (from (i + 1) (64 - (i + 1))) t
+
 pub members-end : (m n i : ℕ) → m < 2 ^ n → n ≤ i → membersFrom i m ≡ []
 members-end m n i h l = keep-none (has m) (64 - i) i (λ k g. has-high m n k h (omega arith))
 

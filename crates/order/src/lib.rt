@@ -14,7 +14,7 @@ pub struct Sorting {
 }
 
 // The first node that waits for none of those left, if there is one.
-enum Free {
+pub enum Free {
     Node(usize),
     Stuck,
 }
@@ -31,7 +31,7 @@ pub fn with_bit(m: u64, k: usize) -> u64
 }
 
 // The mask of the nodes below n.
-fn full(n: usize) -> u64
+pub fn full(n: usize) -> u64
     requires { ⌜ n ≤ 64 ⌝ }
     ensures { λ r. ⌜ r ≡ 2 ^ n - 1 ⌝ }
 {
@@ -53,7 +53,7 @@ fn is_free(mask: u64, left: u64, k: usize) -> bool
 }
 
 // The lowest node that is left and to which no edge leads from a node that is left.
-fn first_free(masks: &[u64; 64], left: u64, n: usize) -> Free
+pub fn first_free(masks: &[u64; 64], left: u64, n: usize) -> Free
     requires { ⌜ (n ≤ 64) × (left < 2 ^ n) ⌝ }
     ensures { λ r. ⌜ r ≡ asFree (firstFree (maskInto (now (masks .entry))) (members left) (members left)) ⌝ }
 {

@@ -1,12 +1,15 @@
--- What a caller may conclude: on the tables of a case that was read, the list is that of the meaning, and the answer is the outlook's.
-use Prim.Native.Nat.{ℕ, zero, suc, _-_, _*_, _/_, _≤_, _<_}
+-- What a caller may conclude: on the tables of a case that was read, the list is that of the meaning, and the answer is the outlook's;
+-- and what the reply tells of any tables.
+use Prim.Native.Nat.{ℕ, zero, suc, _-_, _/_, _≤_, _<_}
 use mathlib.Core.Path.{_≡_, refl, sym, _∙_, ap, ap₂, subst}
 use mathlib.Core.Bool.{Bool, true, false, cond}
 use mathlib.Core.List.{List, [], _∷_, _++_, map, map-map}
 use mathlib.Core.Logic.{inl, inr, ⊎-elim}
 use native.Mathlib.Omega.{arith}
+use borrow.Author.Tests.{le-leb, ltb-false}
 use lib.Dec.{leb, ltb}
-use lib.ListN.{length, length-map, length-append, getD, take, drop, replicate, List·getD-map}
+use lib.ListN.{length, length-map, length-append, getD, take, drop, replicate}
+use lib.Seq.{take-at, length-take-le}
 use Rattle.meaning.specs.Text.{In, from}
 use Rattle.meaning.specs.Refusal.{Answer, taken, refused, onTaken, ROOM, MANY}
 use Rattle.meaning.specs.Limits.{partLimit}
@@ -17,7 +20,8 @@ use Rattle.meaning.specs.Card.{Put}
 use Rattle.meaning.specs.Step.{moment, putIn, someHolds, leadsTo, pattern}
 use Rattle.meaning.specs.Outlook.{filledWith, cuts, many, tried, choices, ascending, patterns}
 use Rattle.meaning.specs.Doors.{Case, readCase, outlook, fitting, replied, written}
-use Rattle.theory.specs.Lists.{map-in, map-same, joined-in, set-in}
+use Rattle.theory.specs.Ascending.{ascending-few}
+use Rattle.theory.specs.Lists.{map-in, map-same, joined-in, set-in, from-length}
 use Rattle.theory.specs.Formed.{Each}
 use Rattle.theory.specs.Cards.{PutIn}
 use Rattle.theory.specs.Entries.{Proper, proper-most}
@@ -25,6 +29,7 @@ use Rattle.theory.specs.Polar.{run-length}
 use Rattle.theory.specs.Accepted.{put-length}
 use Rattle.theory.specs.Papers.{Papers, case-holds, Apart, case-apart}
 use Rattle.theory.specs.Cases.{at}
+use Rattle.reply.specs.declared.Reply.{Reply}
 use Rattle.reply.specs.Answers.{asReply, refusedReply}
 use Rattle.number.specs.Answers.{coded}
 use Rattle.tables.specs.Heads.{padded, asHeads}
@@ -205,6 +210,13 @@ module _ (s c e : List ℕ) (k : Case) (q : readCase s c e ≡ taken k) where
       go true = refl
       go false = refl
 
+  pub answer-outlook : cond (ltb partLimit (size (triedOf a m))) (refused MANY 0 0) (taken (listOf a m)) ≡ outlook k
+  answer-outlook = rw (many-is, list-is) (go (many ts (at k)) refl)
+    where
+      go : (b : Bool) → many ts (at k) ≡ b → cond (many ts (at k)) (refused MANY 0 0) (taken (patterns ts (k .order) (at k))) ≡ outlook k
+      go true e = rw (outlook-is true e, e)
+      go false e = rw (outlook-is false e, e)
+
   pub reply-outlook : (room : ℕ) → replyFor a m room ≡ asReply (replied (λ (l : List ℕ). length l) (λ l. 0) (onTaken (outlook k) (λ l. fitting (λ l. l) room l)))
   unfolding replyFor fitting replied
   reply-outlook room = rw (many-is, list-is) (go (many ts (at k)) refl)
@@ -232,3 +244,68 @@ module _ (s c e : List ℕ) (k : Case) (q : readCase s c e ≡ taken k) where
           ≡ written (λ (l : List ℕ). l) lent (onTaken (outlook k) (λ l. cond (leb (length l) (length lent)) (taken l) (refused ROOM 0 0)))
       go true m = rw (outlook-is true m, m)
       go false m = rw (outlook-is false m, m) (fits (leb (length (patterns ts (k .order) (at k))) (length lent)))
+
+-- WHAT THE REPLY TELLS, with room for 4,096 patterns; whatever the tables hold
+
+module _ (a : Accepted) (m : Moment) where
+  abbrev too-many : Bool
+  too-many = ltb 4096 (size (triedOf a m))
+
+  abbrev listed : List ℕ
+  listed = listOf a m
+
+  -- there are as many patterns as parts at most
+  pub list-few : ltb 4096 (size (triedOf a m)) ≡ false → length (listOf a m) ≤ 4096
+  unfolding listOf
+  list-few e =
+      let f : ℕ → ℕ = λ x. patternAt (fixedOf a m) (choice (triedOf a m) x) in
+      let n = size (triedOf a m) in
+      omega (arith, ltb-false 4096 n e, ascending-few (map f (from 0 n)), length-map (from 0 n) f, from-length n 0)
+
+  module _ (lent : List ℕ) (long : length lent ≡ 4096) (r : Reply) (told : r ≡ replyFor a m (length lent)) where
+    fits : too-many ≡ false → leb (length listed) (length lent) ≡ true
+    fits e = le-leb (length listed) (length lent) (omega (arith, list-few e))
+
+    listed-reply : too-many ≡ false → r ≡ record { number = 0; paper = 0; line = 0; count = length listed; tasks = 0 }
+    unfolding replyFor
+    listed-reply e = told ∙ rw (e, fits e)
+
+    -- another number than 0: there are too many parts
+    pub reply-many : (r .number ≡ 0 → ⊥) → ltb 4096 (size (triedOf a m)) ≡ true
+    reply-many z = go too-many refl
+      where
+        go : (b : Bool) → too-many ≡ b → too-many ≡ true
+        go true e = e
+        go false e = absurd (z (ap (λ (r : Reply). r .number) (listed-reply e)))
+
+    -- number 0: there are not, and the space holds the list
+    module _ (z : r .number ≡ 0) where
+      pub reply-few : ltb 4096 (size (triedOf a m)) ≡ false
+      unfolding replyFor
+      reply-few = go too-many refl
+        where
+          go : (b : Bool) → too-many ≡ b → too-many ≡ false
+          go true e =
+              let y : r ≡ refusedReply 10 0 0 = told ∙ rw e in
+              let n : r .number ≡ 10 = ap (λ (r : Reply). r .number) y in
+              absurd (omega arith)
+          go false e = e
+
+      counted : r .count ≡ length listed
+      counted = ap (λ (r : Reply). r .count) (listed-reply reply-few)
+
+      module _ (ps : List ℕ) (space : ps ≡ spaceFor a m lent) where
+        kept : ps ≡ listed ++ drop (length listed) lent
+        unfolding spaceFor
+        kept = space ∙ rw (reply-few, fits reply-few)
+
+        pub list-held : take (r .count) ps ≡ listOf a m
+        list-held = ap (take (r .count)) kept ∙ take-at listed (drop (length listed) lent) (r .count) (sym counted)
+
+        pub outlook-part : r .count ≤ length ps
+        outlook-part = omega (arith, counted, ap length kept, length-append listed (drop (length listed) lent))
+
+        pub outlook-long : r .count ≡ length (take (r .count) ps)
+        outlook-long = sym (length-take-le (r .count) ps outlook-part)
+
+pub ruleset parts-of = (outlook-part, outlook-long)

@@ -1,12 +1,11 @@
 -- The outlook, return by return: what is known there, and the answer that is asked.
 use Prim.Native.Nat.{ℕ, suc, _+_, _-_, _/_, _≤_, _<_}
 use mathlib.Core.Path.{_≡_, refl, sym, _∙_, ap, ap₂, subst}
-use mathlib.Core.Bool.{Bool, true, false, cond}
-use mathlib.Core.List.{List, [], _∷_, _++_, map}
+use mathlib.Core.Bool.{Bool, true, false}
+use mathlib.Core.List.{List, _++_, map}
 use native.Mathlib.Omega.{arith}
-use native.Mathlib.Numerals.{add-one}
 use borrow.Author.Tests.{lt-ltb, le-ltb, le-leb, lt-leb}
-use lib.Dec.{leb, ltb}
+use lib.Dec.{ltb}
 use lib.ListN.{length, length-map, length-append, getD, take, drop}
 use lib.Seq.{take-at}
 use Rattle.meaning.specs.Text.{from}
@@ -14,13 +13,13 @@ use Rattle.meaning.specs.Refusal.{ROOM, MANY}
 use Rattle.meaning.specs.Step.{pattern}
 use Rattle.meaning.specs.Outlook.{insert, ascending}
 use Rattle.theory.specs.Lists.{from-length}
-use Rattle.theory.specs.Ascending.{Up, ascending-up}
+use Rattle.theory.specs.Ascending.{Up, ascending-up, insert-grows, ascending-few}
 use Rattle.card.specs.Parts.{sideOf}
 use Rattle.plan.specs.declared.Plan.{Plan}
 use Rattle.test.specs.declared.Moment.{Moment}
 use Rattle.step.specs.Run.{runOver}
 use Rattle.sets.specs.Front.{Front}
-use Rattle.sets.proofs.Callers.{front-none, front-take, front-length, front-more, ascending-few, insert-grows}
+use Rattle.sets.proofs.Callers.{front-none, front-take, front-length, front-more}
 use Rattle.combos.specs.Numbered.{split, sum, product, size, choice}
 use Rattle.parts.specs.Tried.{triedFrom, Filled}
 use Rattle.parts.proofs.Callers.{fill-many, fill-few, fill-lists, fill-product, fill-long, fill-room}

@@ -1,29 +1,26 @@
 -- What the desk program prints for a case and for the whole input, return by return: what is known there, and the answer that is asked.
-use Prim.Native.Nat.{ℕ, zero, suc, _+_, _*_, _/_, _%_, _<_, _≤_}
-use mathlib.Core.Path.{_≡_, refl, sym, _∙_, ap, ap₂, subst}
+use Prim.Native.Nat.{ℕ, zero, suc, _+_, _*_, _/_, _%_, _≤_}
+use mathlib.Core.Path.{_≡_, refl, sym, _∙_, ap, ap₂}
 use mathlib.Core.Bool.{Bool, true, false, cond}
 use mathlib.Core.List.{List, [], _∷_, _++_, map}
 use native.Mathlib.Omega.{arith}
 use mir.Val.{Fits}
 use mir.Syntax.{w64}
-use borrow.Author.Tests.{eq-eqb, ne-eqb, le-leb}
-use lib.Dec.{leb, ltb}
-use lib.ListN.{length, length-append, length-map, take, drop}
-use lib.Seq.{take-at}
+use borrow.Author.Tests.{eq-eqb, ne-eqb}
+use lib.Dec.{ltb}
+use lib.ListN.{length, length-append, length-map}
 use Rattle.meaning.specs.Text.{text, from, joined}
-use Rattle.meaning.specs.Refusal.{Answer, taken, refused, onTaken, MANY, ROOM}
+use Rattle.meaning.specs.Refusal.{taken, refused, MANY}
 use Rattle.meaning.specs.Sheet.{Event, Status, eventNames, statusNames, statuses}
 use Rattle.meaning.specs.Sheet as M
-use Rattle.meaning.specs.Tests.{tests}
-use Rattle.meaning.specs.Step.{moment, putIn, startedFrom, started, pattern}
-use Rattle.meaning.specs.Outlook as Outlook
+use Rattle.meaning.specs.Step.{startedFrom, started, pattern}
 use Rattle.meaning.specs.Write.{line}
-use Rattle.meaning.specs.Doors.{readSheet, readTold, Case, readCase, next, outlook, fitting, replied, written}
-use Rattle.meaning.specs.Desk.{paperLength, refusalText, startLines, outlookLines, printed, deskOutput}
+use Rattle.meaning.specs.Doors.{readSheet, readTold, Case, readCase, next, outlook}
+use Rattle.meaning.specs.Desk.{refusalText, startLines, outlookLines, printed}
 use Rattle.theory.specs.Formed.{WellHeads}
 use Rattle.theory.specs.Papers.{Papers, case-holds, case-short}
-use Rattle.theory.specs.Cases.{at, after, case-meets}
-use Rattle.theory.specs.Accepted.{card-length, case-entries}
+use Rattle.theory.specs.Cases.{at, after}
+use Rattle.theory.specs.Checks.{refusal-few}
 use Rattle.tables.specs.declared.Heads.{Heads}
 use Rattle.tables.specs.Heads.{Sized, allNames, statusAt, headsOf, asHeads}
 use Rattle.tables.proofs.Padded.{names-length}
@@ -35,10 +32,8 @@ use Rattle.event.specs.Answers.{asHappening}
 use Rattle.space.specs.Answers.{Wrote}
 use Rattle.space.proofs.Laws.{wrote-long, wrote-room, wrote-both}
 use Rattle.write.specs.Answers.{spaceWith}
-use Rattle.sets.specs.Front.{Front}
 use Rattle.combos.specs.Numbered.{size}
 use Rattle.reply.specs.declared.Reply.{Reply}
-use Rattle.reply.specs.Answers.{asReply, refusedReply}
 use Rattle.test.specs.declared.Moment.{Moment}
 use Rattle.test.specs.Codes.{asMoment}
 use Rattle.moment.specs.Tables.{momentOf}
@@ -47,16 +42,21 @@ use Rattle.accepted.specs.Answers.{takenSheet, asAccepted}
 use Rattle.accepted.proofs.Callers.{accept-sized}
 use Rattle.case.specs.declared.Told.{Told}
 use Rattle.case.specs.Answers.{asTold}
-use Rattle.case.proofs.Callers.{TheCase, sheet-refused, told-refused, the-case}
+use Rattle.case.proofs.Callers.{TheCase, the-case, printed-case}
 use Rattle.next.specs.Next.{textAfter, tasksAfter, replyAfter}
-use Rattle.next.proofs.Callers.{text-after, tasks-after}
-use Rattle.outlook.specs.Patterns.{Ready, triedOf, listOf, replyFor, spaceFor}
-use Rattle.outlook.proofs.Callers.{ready, moment-at, reply-outlook, space-outlook}
+use Rattle.next.proofs.Callers.{text-after, next-few, tasks-after, reply-stepped, card-written}
+use Rattle.outlook.specs.Patterns.{Ready, triedOf, listOf}
+use Rattle.outlook.proofs.Callers.{ready, moment-at, answer-outlook}
 use Rattle.print.specs.Lines.{startText, patternText, manyText}
-use Rattle.print.proofs.Callers.{refusal-few}
-use Rattle.split.proofs.Callers.{input-long, input-done}
 use Rattle.output.specs.Texts.{startsText, listedText, caseText, Within}
 use Rattle.output.proofs.Lines.{starts-few, listed-few}
+
+-- what is printed for a case, and for three papers
+abbrev pub ofCase : List ℕ → Case → List ℕ
+ofCase sheet k = next k .card ++ startLines (k .sheet .heads .stages) (next k .tasks) ++ outlookLines (outlook k)
+
+abbrev pub ofPapers : List ℕ → List ℕ → List ℕ → List ℕ
+ofPapers sheet card event = printed (readCase sheet card event)
 
 -- TASKS
 
@@ -94,66 +94,15 @@ sheet-starts hd w bs l =
     let z : asHeads hd .fields + asHeads hd .events + 0 ≡ asHeads hd .fields + asHeads hd .events = omega arith in
     ap (λ i. startsText (asHeads hd .names) i (asHeads hd .stages) (pattern bs)) (sym z) ∙ starts-are (asHeads hd) (length (hd .stages)) 0 bs l ∙ ap (λ ss. startLines ss bs) (stages-are hd w)
 
--- THE OUTLOOK
-
--- what the outlook answers, asked with room for the very list that the tables give
-module _ (l : List ℕ) where
-  abbrev said : Answer (List ℕ) → Reply
-  said x = asReply (replied (λ (l : List ℕ). length l) (λ l. 0) (onTaken x (λ x. fitting (λ l. l) (length l) x)))
-
-  abbrev kept : Answer (List ℕ) → List ℕ
-  kept x = written (λ (l : List ℕ). l) l (onTaken x (λ x. fitting (λ l. l) (length l) x))
-
-  answer-is : (many fits : Bool) (x : Answer (List ℕ)) → fits ≡ true → ((n i j : ℕ) → x ≡ refused n i j → n ≡ 10)
-      → cond many (refusedReply 10 0 0) (cond fits (record { number = 0; paper = 0; line = 0; count = length l; tasks = 0 }) (refusedReply 9 0 0)) ≡ said x
-      → cond many l (cond fits (l ++ drop (length l) l) l) ≡ kept x
-      → cond many manyText (joined patternText l) ≡ outlookLines x
-  unfolding outlookLines fitting replied written
-  answer-is many false x t h p r = let z : _≡_ {A = ℕ} 0 1 = cc in absurd (omega arith)
-  answer-is true true (refused n i j) t h p r = refl
-  answer-is true true (taken x) t h p r = absurd (go (leb (length x) (length l)) p)
-    where
-      go : (b : Bool) → refusedReply 10 0 0 ≡ asReply (replied (λ (l : List ℕ). length l) (λ l. 0) (cond b (taken x) (refused ROOM 0 0))) → ⊥
-      go true p = let z : _≡_ {A = ℕ} 10 0 = ap (λ (r : Reply). r .number) p in omega arith
-      go false p = let z : _≡_ {A = ℕ} 10 9 = ap (λ (r : Reply). r .number) p in omega arith
-  answer-is false true (refused n i j) t h p r = let z : 0 ≡ n = ap (λ (r : Reply). r .number) p in let y = h n i j refl in absurd (omega arith)
-  answer-is false true (taken x) t h p r = go (leb (length x) (length l)) p r
-    where
-      go : (b : Bool) → record { number = 0; paper = 0; line = 0; count = length l; tasks = 0 } ≡ asReply (replied (λ (l : List ℕ). length l) (λ l. 0) (cond b (taken x) (refused ROOM 0 0)))
-          → l ++ drop (length l) l ≡ written (λ (l : List ℕ). l) l (cond b (taken x) (refused ROOM 0 0)) → joined patternText l ≡ joined patternText x
-      go true p r =
-          let n : length l ≡ length x = ap (λ (r : Reply). r .count) p in
-          ap (joined patternText) (sym (take-at l (drop (length l) l) (length x) n) ∙ ap (take (length x)) r ∙ take-at x (drop (length x) l) (length x) refl)
-      go false p r = let z : _≡_ {A = ℕ} 0 9 = ap (λ (r : Reply). r .number) p in absurd (omega arith)
-
 -- A CASE
 
 module _ (s c e : List ℕ) (k : Case) (q : readCase s c e ≡ taken k) where
   papers : Papers k
   papers = case-holds s c e k q
 
-  next-few : length (next k .card) ≤ 969
-  unfolding next moment
-  next-few =
-      let (many, proper) = case-entries k papers in
-      card-length (k .sheet .heads) (papers .well .heads) (putIn (k .happening .puts) (k .card .entries)) (after k) many (case-meets k papers .long ∙ papers .marked) proper
-
   tasks-long : length (next k .tasks) ≡ length (k .sheet .heads .stages)
   unfolding next started
   tasks-long = started-long (k .sheet .heads .stages) (k .card .statuses) (after k) 0 (k .sheet .heads .stages)
-
-  -- an outlook is refused only as MANY
-  refused-many : (n i j : ℕ) → outlook k ≡ refused n i j → n ≡ 10
-  unfolding outlook
-  refused-many n i j f = go (Outlook.many (tests (k .sheet)) (at k)) f
-    where
-      number : Answer (List ℕ) → ℕ
-      number (taken l) = 10
-      number (refused n i j) = n
-
-      go : (b : Bool) → _≡_ {A = Answer (List ℕ)} (elim b [ true ↦ refused MANY 0 0 | false ↦ taken (Outlook.patterns (tests (k .sheet)) (k .order) (at k)) ]) (refused n i j) → n ≡ 10
-      go true f = sym (ap number f)
-      go false f = sym (ap number f)
 
   -- the case as the code has it
   abbrev a : Accepted
@@ -166,16 +115,17 @@ module _ (s c e : List ℕ) (k : Case) (q : readCase s c e ≡ taken k) where
   happened = asHappening (k .sheet .heads) (k .happening)
 
   listed-is : listedText a (momentOf given happened) ≡ outlookLines (outlook k)
-  unfolding listedText replyFor spaceFor
+  unfolding listedText outlookLines
   listed-is =
       let m = asMoment (at k) in
-      let l = listOf a m in
-      ap (listedText a) (moment-at s c e k q)
-      ∙ answer-is l (ltb 4096 (size (triedOf a m))) (leb (length l) (length l)) (outlook k) (le-leb (length l) (length l) (omega arith)) refused-many
-      (reply-outlook s c e k q (length l)) (space-outlook s c e k q l)
+      ap (listedText a) (moment-at s c e k q) ∙ go (ltb 4096 (size (triedOf a m))) (listOf a m) ∙ ap outlookLines (answer-outlook s c e k q)
+    where
+      go : (many : Bool) (l : List ℕ) → cond many manyText (joined patternText l) ≡ outlookLines (cond many (refused MANY 0 0) (taken l))
+      go true l = refl
+      go false l = refl
 
-  printed-is : printed (taken k) ≡ caseText a given happened c e
-  unfolding printed caseText
+  printed-is : ofCase s k ≡ caseText a given happened c e
+  unfolding caseText
   printed-is =
       let hd = k .sheet .heads in
       sym (ap₂ _++_ (ap₂ _++_ (text-after s c e k q) (ap (startsText (asHeads hd .names) (asHeads hd .fields + asHeads hd .events) (asHeads hd .stages)) (tasks-after s c e k q) ∙ sheet-starts hd (papers .well .heads) (next k .tasks) tasks-long)) listed-is)
@@ -200,7 +150,13 @@ module _ (s c e : List ℕ) (k : Case) (q : readCase s c e ≡ taken k) where
   names-held = names-length 64 (allNames (k .sheet .heads)) names-few
 
   within : Within a given happened c e
-  within = record { names-held = names-held; ready = rw (moment-at s c e k q) (ready s c e k q); card-few = case-short s c e k q .0; event-few = case-short s c e k q .1; next-few = rw (text-after s c e k q) next-few }
+  within = record {
+    names-held = names-held;
+    ready = rw (moment-at s c e k q) (ready s c e k q);
+    card-few = case-short s c e k q .0;
+    event-few = case-short s c e k q .1;
+    next-few = rw (text-after s c e k q) (next-few s c e k q);
+  }
 
 -- A CASE THAT WAS READ
 
@@ -246,24 +202,19 @@ module _ (a : Accepted) (given : Card) (happened : Happening) (c e : List ℕ) (
     all-fit = omega (arith, both-fit, few, w .next-few, length-append (textAfter a given happened c e) starts, length-append (textAfter a given happened c e ++ starts) listed, listed-few a (momentOf given happened))
 
     module _ (o1 : List ℕ) (r : Reply) (answer : r ≡ replyAfter a given happened c e (length o)) (space : o1 ≡ spaceWith o (textAfter a given happened c e)) where
-      fits : leb (length (textAfter a given happened c e)) (length o) ≡ true
-      fits = le-leb (length (textAfter a given happened c e)) (length o) (omega (arith, w .next-few))
-
-      reply-is : r ≡ record { number = 0; paper = 0; line = 0; count = length (textAfter a given happened c e); tasks = tasksAfter a given happened }
-      unfolding replyAfter
-      reply-is = answer ∙ rw fits
+      few-enough : length (textAfter a given happened c e) ≤ length o
+      few-enough = omega (arith, w .next-few)
 
       carded : Wrote 0 (textAfter a given happened c e) o o1 (r .count)
-      unfolding spaceWith
-      carded =
-          let z : 0 + length (textAfter a given happened c e) ≡ length (textAfter a given happened c e) = omega arith in
-          record { space = rw z (space ∙ rw fits); next = rw z (ap (λ (r : Reply). r .count) reply-is) }
+      carded = card-written a given happened c e o few-enough o1 r answer space
 
       abbrev told-starts : List ℕ
       told-starts = startsText (a .heads .names) (a .heads .fields + a .heads .events) (a .heads .stages) (r .tasks)
 
       starts-is : told-starts ≡ starts
-      starts-is = ap (startsText (heads .names) (heads .fields + heads .events) (heads .stages)) (ap (λ (r : Reply). r .tasks) reply-is)
+      starts-is =
+          let tasks : r .tasks ≡ tasksAfter a given happened = ap (λ (r : Reply). r .tasks) (reply-stepped a given happened c e o few-enough o1 r answer space) in
+          ap (startsText (heads .names) (heads .fields + heads .events) (heads .stages)) tasks
 
       pub read-starts : r .count + length told-starts ≤ length o1
       read-starts = rw starts-is (wrote-room 0 (textAfter a given happened c e) starts o o1 (r .count) both-fit carded)
@@ -292,19 +243,11 @@ module _ {x y : Accepted} {c d : Card} {h i : Happening} (p : x ≡ y) (q : c �
   text-as = rw (p, q, r)
 
 module _ (s c e : List ℕ) (x : Accepted) (sheet-told : x ≡ asAccepted (readSheet s)) where
-  pub case-sheet : (x .number ≡ 0 → ⊥) → (o o1 : List ℕ) (r : ℕ) → Wrote 0 (refusalText (x .number) 1 (x .line)) o o1 r → Wrote 0 (printed (readCase s c e)) o o1 r
-  unfolding printed
-  case-sheet z o o1 r v = rw (sheet-refused s c e x sheet-told z) v
-
   module _ (zero : x .number ≡ 0) where
     pub case-sized : Sized (x .heads)
     case-sized = accept-sized s x sheet-told zero
 
     module _ (t : Told) (told : t ≡ asTold (headsOf (x .heads)) (readTold (headsOf (x .heads)) c e)) where
-      pub case-refused : (t .number ≡ 0 → ⊥) → (o o1 : List ℕ) (r : ℕ) → Wrote 0 (refusalText (t .number) (t .paper) (t .line)) o o1 r → Wrote 0 (printed (readCase s c e)) o o1 r
-      unfolding printed
-      case-refused z o o1 r v = rw (told-refused s c e x sheet-told zero t told z) v
-
       module _ (read : t .number ≡ 0) where
         abbrev here : TheCase s c e x (t .card) (t .happening)
         here = the-case s c e x sheet-told zero t told read
@@ -313,28 +256,13 @@ module _ (s c e : List ℕ) (x : Accepted) (sheet-told : x ≡ asAccepted (readS
         case-within = within-as (here .sheet) (here .given) (here .happened) c e (within s c e (here .k) (here .q))
 
         pub case-done : (o o1 : List ℕ) (r : ℕ) → Wrote 0 (caseText x (t .card) (t .happening) c e) o o1 r → Wrote 0 (printed (readCase s c e)) o o1 r
-        case-done o o1 r v = subst (λ w. Wrote 0 w o o1 r) (text-as (here .sheet) (here .given) (here .happened) c e ∙ sym (ap printed (here .q) ∙ printed-is s c e (here .k) (here .q))) v
+        unfolding printed
+        case-done =
+            printed-case ofCase s c e x sheet-told zero t told read (caseText x (t .card) (t .happening) c e)
+            (text-as (here .sheet) (here .given) (here .happened) c e ∙ sym (printed-is s c e (here .k) (here .q)))
 
 -- room for a refusal
 pub refusal-room : (n p l : ℕ) (o : List ℕ) → 81920 ≤ length o → length (refusalText n p l) ≤ length o
 refusal-room n p l o h = omega (arith, refusal-few n p l)
 
-pub ruleset casing = (refusal-room, case-sheet, case-sized, case-refused, case-within, case-done)
-
--- THE WHOLE INPUT
-
--- what is printed for three papers
-abbrev paper : List ℕ → List ℕ → List ℕ → List ℕ
-paper sheet card event = printed (readCase sheet card event)
-
-module _ (input o : List ℕ) where
-  pub desk-long : 34304 < length input → (o1 : List ℕ) (r : ℕ) → Wrote 0 (refusalText 1 0 0) o o1 r → Front (deskOutput input) r o o1
-  unfolding deskOutput
-  desk-long = input-long paper input o
-
-  pub desk-done : (a : ℕ) → a ≡ paperLength true input → (rest : List ℕ) → rest ≡ drop a input → (b : ℕ) → b ≡ paperLength true rest → length input ≤ 34304
-      → (last : List ℕ) → last ≡ drop b rest → (o1 : List ℕ) (r : ℕ) → Wrote 0 (printed (readCase (take a input) (take b rest) last)) o o1 r → Front (deskOutput input) r o o1
-  unfolding deskOutput
-  desk-done = input-done paper input o
-
-pub ruleset desking = (refusal-room, desk-long, desk-done)
+pub ruleset casing = (refusal-room, case-sized, case-within, case-done)

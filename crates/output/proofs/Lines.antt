@@ -1,26 +1,22 @@
 -- The lines behind the next card, one after another: tasks, patterns, the outlook.
 use Prim.Native.Nat.{ℕ, zero, suc, _+_, _-_, _*_, _/_, _<_, _≤_}
-use mathlib.Core.Path.{_≡_, refl, sym, _∙_, ap}
+use mathlib.Core.Path.{_≡_, refl}
 use mathlib.Core.Bool.{Bool, true, false, cond}
-use mathlib.Core.List.{List, [], _∷_, _++_, map}
+use mathlib.Core.List.{List, [], _∷_, _++_}
 use native.Mathlib.Omega.{arith}
 use native.Mathlib.Numerals.{add-one}
-use borrow.Author.Tests.{le-leb, ltb-false}
 use lib.Dec.{ltb}
-use lib.ListN.{length, length-map, length-append, getD, take, drop}
-use lib.Seq.{take-at, length-take-le}
-use Rattle.meaning.specs.Text.{joined, from}
+use lib.ListN.{length, length-append, getD, take, drop}
+use Rattle.meaning.specs.Text.{joined}
 use Rattle.meaning.specs.Write.{line}
-use Rattle.theory.specs.Lists.{from-length}
 use Rattle.space.specs.Answers.{Wrote}
 use Rattle.space.proofs.Laws.{Left, left-start, left-end, left-room, left-more}
-use Rattle.sets.proofs.Callers.{ascending-few}
-use Rattle.combos.specs.Numbered.{size, choice}
+use Rattle.combos.specs.Numbered.{size}
 use Rattle.accepted.specs.declared.Accepted.{Accepted}
 use Rattle.reply.specs.declared.Reply.{Reply}
-use Rattle.reply.specs.Answers.{refusedReply}
 use Rattle.test.specs.declared.Moment.{Moment}
-use Rattle.outlook.specs.Patterns.{patternAt, fixedOf, triedOf, listOf, replyFor, spaceFor}
+use Rattle.outlook.specs.Patterns.{triedOf, listOf, replyFor, spaceFor}
+use Rattle.outlook.proofs.Callers.{list-few, reply-many, reply-few, list-held}
 use Rattle.print.specs.Lines.{startText, patternText, manyText}
 use Rattle.print.proofs.Laws.{listing-room}
 use Rattle.print.proofs.Callers.{start-few, pattern-few}
@@ -95,75 +91,33 @@ module _ (a : Accepted) (m : Moment) where
   abbrev patterns : List ℕ
   patterns = listOf a m
 
-  -- there are as many patterns as parts at most
-  pub list-few : many ≡ false → length (listOf a m) ≤ 4096
-  unfolding listOf
-  list-few e =
-      let f : ℕ → ℕ = λ x. patternAt (fixedOf a m) (choice (triedOf a m) x) in
-      let n = size (triedOf a m) in
-      omega (arith, ltb-false 4096 n e, ascending-few (map f (from 0 n)), length-map (from 0 n) f, from-length n 0)
-
   pub listed-few : length (listedText a m) ≤ 77824
   unfolding listedText line
   listed-few = go many refl
     where
       go : (b : Bool) → many ≡ b → length (cond b manyText (joined patternText patterns)) ≤ 77824
       go true e = omega arith
-      go false e = omega (arith, patterns-few patterns, list-few e)
+      go false e = omega (arith, patterns-few patterns, list-few a m e)
 
   -- the reply tells whether there are too many, and the space then holds the list
   module _ (lent : List ℕ) (long : length lent ≡ 4096) (r : Reply) (told : r ≡ replyFor a m (length lent)) where
-    reply-many : (r .number ≡ 0 → ⊥) → many ≡ true
-    unfolding replyFor
-    reply-many z = go many refl
-      where
-        go : (b : Bool) → many ≡ b → many ≡ true
-        go true e = e
-        go false e =
-            let y : r ≡ record { number = 0; paper = 0; line = 0; count = length patterns; tasks = 0 } = told ∙ rw (e, le-leb (length patterns) (length lent) (omega (arith, list-few e))) in
-            absurd (z (ap (λ (r : Reply). r .number) y))
-
-    reply-list : r .number ≡ 0 → (many ≡ false) × (r .count ≡ length patterns)
-    unfolding replyFor
-    reply-list z = go many refl
-      where
-        go : (b : Bool) → many ≡ b → (many ≡ false) × (r .count ≡ length patterns)
-        go true e =
-            let y : r ≡ refusedReply 10 0 0 = told ∙ rw e in
-            let n : r .number ≡ 10 = ap (λ (r : Reply). r .number) y in
-            absurd (omega arith)
-        go false e =
-            let y : r ≡ record { number = 0; paper = 0; line = 0; count = length patterns; tasks = 0 } = told ∙ rw (e, le-leb (length patterns) (length lent) (omega (arith, list-few e))) in
-            (e, ap (λ (r : Reply). r .count) y)
-
     module _ (z : r .number ≡ 0) (ps : List ℕ) (space : ps ≡ spaceFor a m lent) where
-      kept : ps ≡ patterns ++ drop (length patterns) lent
-      unfolding spaceFor
-      kept = space ∙ rw (reply-list z .0, le-leb (length patterns) (length lent) (omega (arith, list-few (reply-list z .0))))
-
-      list-is : take (r .count) ps ≡ patterns
-      list-is = ap (take (r .count)) kept ∙ take-at patterns (drop (length patterns) lent) (r .count) (sym (reply-list z .1))
-
-      pub outlook-part : r .count ≤ length ps
-      outlook-part = omega (arith, reply-list z .1, ap length kept, length-append patterns (drop (length patterns) lent))
+      held : take (r .count) ps ≡ patterns
+      held = list-held a m lent long r told z ps space
 
       pub outlook-room : (at : ℕ) (o : List ℕ) → at + 77824 ≤ length o → at + length (joined patternText (take (r .count) ps)) ≤ length o
-      outlook-room at o fits = rw list-is (omega (arith, patterns-few patterns, list-few (reply-list z .0)))
+      outlook-room at o fits = rw held (omega (arith, patterns-few patterns, list-few a m (reply-few a m lent long r told z)))
 
       pub outlook-list : (at : ℕ) (o o1 : List ℕ) (q : ℕ) → Wrote at (joined patternText (take (r .count) ps)) o o1 q → Wrote at (listedText a m) o o1 q
       unfolding listedText
-      outlook-list at o o1 q v = rw (reply-list z .0) (rw list-is at v)
+      outlook-list at o o1 q v = rw (reply-few a m lent long r told z) (rw held at v)
 
     pub outlook-many : (r .number ≡ 0 → ⊥) → (at : ℕ) (o o1 : List ℕ) (q : ℕ) → Wrote at manyText o o1 q → Wrote at (listedText a m) o o1 q
     unfolding listedText
-    outlook-many z at o o1 q v = rw (reply-many z) v
-
--- a part is as long as it is told to be
-pub part-long : (s : List ℕ) (n : ℕ) → n ≤ length s → n ≡ length (take n s)
-part-long s n h = sym (length-take-le n s h)
+    outlook-many z at o o1 q v = rw (reply-many a m lent long r told z) v
 
 pub outlook-many-room : (at : ℕ) (o : List ℕ) → at + 77824 ≤ length o → at + length manyText ≤ length o
 unfolding line
 outlook-many-room at o fits = omega arith
 
-pub ruleset outlooking = (outlook-many-room, outlook-many, outlook-part, outlook-room, outlook-list)
+pub ruleset outlooking = (outlook-many-room, outlook-many, outlook-room, outlook-list)

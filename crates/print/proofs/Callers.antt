@@ -1,14 +1,13 @@
 -- What callers use: how long the lines are at most.
-use Prim.Native.Nat.{ℕ, zero, suc, _+_, _/_, _%_, _≤_}
+use Prim.Native.Nat.{ℕ, zero, suc, _/_, _%_, _≤_}
 use mathlib.Core.Bool.{Bool, true, false, cond}
-use mathlib.Core.List.{[], _∷_, _++_}
+use mathlib.Core.List.{[], _∷_}
 use native.Mathlib.Omega.{arith}
-use lib.Dec.{eqb, ltb}
-use lib.ListN.{length, length-append}
+use lib.Dec.{eqb}
+use lib.ListN.{length}
 use Rattle.meaning.specs.Text.{text}
 use Rattle.meaning.specs.Number.{decimal}
 use Rattle.meaning.specs.Write.{line}
-use Rattle.meaning.specs.Desk.{refusalText}
 use Rattle.theory.specs.Counts.{decimal-few}
 use Rattle.theory.specs.Accepted.{line-length}
 use Rattle.text.specs.Packed.{byteOf, namedIn, named}
@@ -27,21 +26,6 @@ symbols-few (suc k) v = go (eqb v 0) (symbols-few k (v / 38))
 named-few : (v : ℕ) → length (named v) ≤ 13
 unfolding named
 named-few v = symbols-few 13 v
-
-pub refusal-few : (n p l : ℕ) → length (refusalText n p l) ≤ 41
-unfolding refusalText
-refusal-few n p l =
-    omega (
-      arith,
-      line-length (text "refused") (decimal n ++ text " " ++ decimal p ++ text " " ++ decimal l),
-      length-append (decimal n ++ text " " ++ decimal p ++ text " ") (decimal l),
-      length-append (decimal n ++ text " " ++ decimal p) (text " "),
-      length-append (decimal n ++ text " ") (decimal p),
-      length-append (decimal n) (text " "),
-      decimal-few n,
-      decimal-few p,
-      decimal-few l,
-    )
 
 pub start-few : (n t : ℕ) → length (startText n t) ≤ 20
 unfolding startText

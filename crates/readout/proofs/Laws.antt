@@ -1,5 +1,5 @@
 -- What `clerk why` prints for a case and for the whole input, return by return: what is known there, and the answer that is asked.
-use Prim.Native.Nat.{ℕ, _<_, _≤_}
+use Prim.Native.Nat.{ℕ, _≤_}
 use mathlib.Core.Path.{_≡_, sym, _∙_, ap, ap₂, subst}
 use mathlib.Core.Bool.{true}
 use mathlib.Core.List.{List, _++_}
@@ -15,14 +15,15 @@ use Rattle.meaning.specs.Reading.{paper}
 use Rattle.meaning.specs.ReadSheet.{sheet}
 use Rattle.meaning.specs.Step.{moment}
 use Rattle.meaning.specs.Doors.{readSheet, readTold, Case, readCase, reasonsIn, why}
-use Rattle.meaning.specs.Desk.{paperLength, refusalText}
-use Rattle.meaning.specs.Clerk.{whyLine, whyPrinted, whyOutput}
+use Rattle.meaning.specs.Desk.{refusalText}
+use Rattle.meaning.specs.Clerk.{whyLine, whyPrinted}
 use Rattle.theory.specs.Readers.{paper-read}
 use Rattle.theory.specs.Formed.{Each}
 use Rattle.theory.specs.Cards.{PutIn}
 use Rattle.theory.specs.Papers.{Papers, case-holds, on-taken, case-apart}
 use Rattle.theory.specs.Cases.{at, case-back}
 use Rattle.theory.specs.Readout.{why-short}
+use Rattle.theory.specs.Checks.{refusal-few}
 use Rattle.reply.specs.declared.Reply.{Reply}
 use Rattle.tables.specs.Heads.{Sized, headsOf, asHeads}
 use Rattle.card.specs.Answers.{asCard}
@@ -33,20 +34,24 @@ use Rattle.test.proofs.Marks.{mark-yes}
 use Rattle.moment.specs.Tables.{momentOf}
 use Rattle.moment.proofs.Callers.{moment-is}
 use Rattle.space.specs.Answers.{Wrote}
-use Rattle.sets.specs.Front.{Front}
 use Rattle.accepted.specs.declared.Accepted.{Accepted}
 use Rattle.accepted.specs.Answers.{takenSheet, asAccepted}
 use Rattle.accepted.proofs.Callers.{accept-sized}
 use Rattle.case.specs.declared.Told.{Told}
 use Rattle.case.specs.Answers.{asTold}
-use Rattle.case.proofs.Callers.{TheCase, sheet-refused, told-refused, the-case}
+use Rattle.case.proofs.Callers.{TheCase, the-case, printed-case}
 use Rattle.why.specs.Reasons.{listOf, replyFor, spaceFor}
 use Rattle.why.proofs.Callers.{ready, list-is}
-use Rattle.split.proofs.Callers.{input-long, input-done}
-use Rattle.print.proofs.Callers.{refusal-few}
 use Rattle.reasons.specs.Lines.{reasonsText, Held}
 use Rattle.reasons.proofs.Callers.{reasons-held, reasons-are}
 use Rattle.readout.specs.Texts.{caseText, Within}
+
+-- what is printed for a case with its sheet, and for three papers
+abbrev pub ofCase : List ℕ → Case → List ℕ
+ofCase sheet k = joined (whyLine sheet k) (reasonsIn k)
+
+abbrev pub ofPapers : List ℕ → List ℕ → List ℕ → List ℕ
+ofPapers sheet card event = whyPrinted sheet (readCase sheet card event)
 
 -- THE LINES OF A CASE THAT WAS READ
 
@@ -111,7 +116,7 @@ module _ (s c e : List ℕ) (k : Case) (q : readCase s c e ≡ taken k) where
       let (sh, e, f) = on-taken (paper 1 sheetBytes sheet s) _ _ (case-apart s c e k q .sheet) in
       leb-true (length s) sheetBytes (paper-read 1 sheetBytes sheet s sh e .0)
 
-  text-is : caseText a now s ≡ joined (whyLine s k) (reasonsIn k)
+  text-is : caseText a now s ≡ ofCase s k
   unfolding caseText why moment
   text-is =
       ap (reasonsText s (asHeads (k .sheet .heads)) (marked (k .card .statuses))) (list-is s c e k q)
@@ -140,19 +145,11 @@ module _ {x y : Accepted} {m n : Moment} (p : x ≡ y) (q : m ≡ n) (s : List �
   text-as = rw (p, q)
 
 module _ (s c e : List ℕ) (x : Accepted) (sheet-told : x ≡ asAccepted (readSheet s)) where
-  pub case-sheet : (x .number ≡ 0 → ⊥) → (o o1 : List ℕ) (r : ℕ) → Wrote 0 (refusalText (x .number) 1 (x .line)) o o1 r → Wrote 0 (whyPrinted s (readCase s c e)) o o1 r
-  unfolding whyPrinted
-  case-sheet z o o1 r v = rw (sheet-refused s c e x sheet-told z) v
-
   module _ (zero : x .number ≡ 0) where
     pub case-sized : Sized (x .heads)
     case-sized = accept-sized s x sheet-told zero
 
     module _ (t : Told) (told : t ≡ asTold (headsOf (x .heads)) (readTold (headsOf (x .heads)) c e)) where
-      pub case-refused : (t .number ≡ 0 → ⊥) → (o o1 : List ℕ) (r : ℕ) → Wrote 0 (refusalText (t .number) (t .paper) (t .line)) o o1 r → Wrote 0 (whyPrinted s (readCase s c e)) o o1 r
-      unfolding whyPrinted
-      case-refused z o o1 r v = rw (told-refused s c e x sheet-told zero t told z) v
-
       module _ (read : t .number ≡ 0) (m : Moment) (moment : m ≡ momentOf (t .card) (t .happening)) where
         abbrev here : TheCase s c e x (t .card) (t .happening)
         here = the-case s c e x sheet-told zero t told read
@@ -165,28 +162,10 @@ module _ (s c e : List ℕ) (x : Accepted) (sheet-told : x ≡ asAccepted (readS
 
         pub case-done : (o o1 : List ℕ) (r : ℕ) → Wrote 0 (caseText x m s) o o1 r → Wrote 0 (whyPrinted s (readCase s c e)) o o1 r
         unfolding whyPrinted
-        case-done o o1 r v = rw (here .q) (subst (λ w. Wrote 0 w o o1 r) (text-as (here .sheet) moment-told s ∙ text-is s c e (here .k) (here .q)) v)
+        case-done = printed-case ofCase s c e x sheet-told zero t told read (caseText x m s) (text-as (here .sheet) moment-told s ∙ text-is s c e (here .k) (here .q))
 
 -- room for a refusal
 pub refusal-room : (n p l : ℕ) (o : List ℕ) → 49152 ≤ length o → length (refusalText n p l) ≤ length o
 refusal-room n p l o h = omega (arith, refusal-few n p l)
 
-pub ruleset casing = (refusal-room, case-sheet, case-sized, case-refused, case-within, case-done)
-
--- THE WHOLE INPUT
-
--- what is printed for three papers
-abbrev told : List ℕ → List ℕ → List ℕ → List ℕ
-told sheet card event = whyPrinted sheet (readCase sheet card event)
-
-module _ (input o : List ℕ) where
-  pub why-long : 34304 < length input → (o1 : List ℕ) (r : ℕ) → Wrote 0 (refusalText 1 0 0) o o1 r → Front (whyOutput input) r o o1
-  unfolding whyOutput
-  why-long = input-long told input o
-
-  pub why-done : (a : ℕ) → a ≡ paperLength true input → (rest : List ℕ) → rest ≡ drop a input → (b : ℕ) → b ≡ paperLength true rest → length input ≤ 34304
-      → (last : List ℕ) → last ≡ drop b rest → (o1 : List ℕ) (r : ℕ) → Wrote 0 (whyPrinted (take a input) (readCase (take a input) (take b rest) last)) o o1 r → Front (whyOutput input) r o o1
-  unfolding whyOutput
-  why-done = input-done told input o
-
-pub ruleset telling = (refusal-room, why-long, why-done)
+pub ruleset casing = (refusal-room, case-sized, case-within, case-done)

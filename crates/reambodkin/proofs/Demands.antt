@@ -1,28 +1,41 @@
--- WHAT DOCUMENT 01 DEMANDS, and what the requests behind it do, proved of the code. `Stepped s c e lent r out` (in `Calls`) is a call of `step` on the papers s, c, e and the space `lent`, with the reply r and the space left as `out`, as far as the function DECLARES it in its contract; `Looked` likewise of `outlook`, `Asked` of `why`. The other words are those of `meaning`.
+-- WHAT DOCUMENT 01 DEMANDS, and what the requests behind it do, proved of the code. `Stepped s c e lent r out` (in `Calls`) is a call of `step` on the papers s, c, e and the space `lent`, with the reply r and the space left as `out`, as far as the function DECLARES it in its contract; `Looked` likewise of `outlook`, `Asked` of `why`; `Checked`, `Blanked` and `Named` (in `Outputs`) of the functions behind `./clerk check`, `blank` and `outlook`. The other words are those of `meaning`.
 use Prim.Native.Nat.{ℕ, _≤_, _<_}
-use mathlib.Core.Path.{_≡_, sym, _∙_}
+use mathlib.Core.Path.{_≡_, sym, _∙_, ap}
 use mathlib.Core.Bool.{Bool, true, false}
-use mathlib.Core.List.{List, [], _∷_, map}
+use mathlib.Core.List.{List, [], _∷_, _++_, map}
 use mathlib.Core.Option.{some}
-use mathlib.Core.Logic.{_↔_, Iff·trans}
+use mathlib.Core.Logic.{_↔_, Iff·trans, Iff·symm}
 use native.Mathlib.Omega.{arith}
 use lib.ListN.{length, getD, take, drop}
-use Rattle.meaning.specs.Text.{In}
+use Rattle.meaning.specs.Text.{text, In, keep, joined, from}
 use Rattle.meaning.specs.Kleene.{true₃, known₃}
 use Rattle.meaning.specs.Refusal.{Answer, taken, refused, CYCLE, ROOM, MANY}
-use Rattle.meaning.specs.Limits.{partLimit}
+use Rattle.meaning.specs.Limits.{sheetBytes, partLimit}
+use Rattle.meaning.specs.Reading.{paper}
+use Rattle.meaning.specs.Name.{Name}
 use Rattle.meaning.specs.Number.{Value, missing}
 use Rattle.meaning.specs.Condition.{Cond, valueC}
-use Rattle.meaning.specs.Sheet.{Sheet}
+use Rattle.meaning.specs.Sheet.{Sheet, statusNames, statuses}
+use Rattle.meaning.specs.ReadSheet.{sheet}
 use Rattle.meaning.specs.Card.{is, readCard}
-use Rattle.meaning.specs.Graph.{Cycle, TestingOrder}
+use Rattle.meaning.specs.Graph.{Path, Cycle, TestingOrder}
 use Rattle.meaning.specs.Tests.{nodes, Test, tests}
 use Rattle.meaning.specs.Dependency.{predecessors}
+use Rattle.meaning.specs.Circle.{Edge, around, IsCircle, ToldOn, circle, edgeLine}
 use Rattle.meaning.specs.Step.{Moment, Meets, holds, putIn, leadsTo, pattern}
 use Rattle.meaning.specs.Outlook.{IsOutlook, filledWith, parts, cuts, isCut}
+use Rattle.meaning.specs.Prospect.{Prospect, yesIn, Means, prospect, yesNames}
 use Rattle.meaning.specs.Why.{Reason, coded, linesFor, changed, IsWhy}
+use Rattle.meaning.specs.Write.{line}
 use Rattle.meaning.specs.Doors.{Accepted, readSheet, Case, readCase, next, reasonsIn, why, stepAnswer, outlookAnswer, whyAnswer}
+use Rattle.meaning.specs.Desk.{refusalText}
+use Rattle.meaning.specs.Clerk.{sheetTold, circleLine, unasked, prospectsTold}
+use Rattle.theory.specs.Papers.{case-holds}
 use Rattle.theory.specs.Cases.{at, after, Known}
+use Rattle.theory.specs.Circles.{circle-cycle, circle-path}
+use Rattle.theory.specs.Checks as Checks
+use Rattle.theory.specs.Blank as Blank
+use Rattle.theory.specs.Prospects as Prospects
 use Rattle.theory.specs.Whys.{about}
 use Rattle.theory.specs.Requests as Requests
 use Rattle.theory.specs.Demands as Theory
@@ -30,6 +43,8 @@ use Rattle.reply.specs.declared.Reply.{Reply}
 use Rattle.reply.specs.Answers.{refusedReply}
 use Rattle.reambodkin.proofs.Script.{told-back, told-exactly, taken-number, list-given}
 use Rattle.reambodkin.proofs.Calls.{InOrder, StepKeeps, OutlookKeeps, WhyKeeps, step-keeps, outlook-keeps, why-keeps, Stepped, Looked, Asked, stepped, looked, asked, step-refused, outlook-refused, why-refused, step-took, outlook-took, why-took}
+use Rattle.reambodkin.proofs.Outputs as Outputs
+use Rattle.reambodkin.proofs.Outputs.{WordsKeep, Checked, Blanked, Named, checked, named, checked-circle, checked-counts, blanked-card, Holds, printed-for, door-listed, many-told}
 
 -- DEMAND 1. "It takes any sheet, card and event line and comes to an end": for whatever arguments, the code of each door ends, and keeps what it declares.
 pub doors-keep : {M : Type 1} → StepKeeps M × OutlookKeeps M × WhyKeeps M
@@ -158,3 +173,59 @@ module _ {s c e lent : List ℕ} {r : Reply} {out : List ℕ} (done : Asked s c 
   pub why-right : r .number ≡ 0 → Explained s c e lent r out
   why-right z = let (k, q, g) = why-took done z in
       record { case = k; read = q; places = (g .number .1, g .number .2, g .tells); list = reasonsIn k; told = (g .front, g .count); right = Theory.why-right s c e k q; only = λ l h. Theory.why-one (k .sheet) (at k) (after k) l (reasonsIn k) h (Theory.why-right s c e k q) ∙ sym (g .front); changed-one = Theory.why-changed s c e k q; line-one = Theory.why-lines s c e k q; behind = g .behind }
+
+-- FOR THE PEOPLE AT THE DESK. The functions behind the clerk's words end and keep what they declare, for whatever input.
+pub words-keep : {M : Type 1} → WordsKeep M
+words-keep = Outputs.words-keep
+
+-- FOR THE SHEET WRITER. `Checked s lent n out` is a call on the sheet s and the space `lent` that told the length n and left the space as `out`, so `take n out` is what is printed. "a circle, one line for each edge: .. each TO the next line's FROM, the last TO the first FROM, no node twice"; "it is a path of the graph from a node to itself"
+pub record Circled (sh : Sheet) (printed : List ℕ) : Type 0 where
+  pub nodes : List ℕ
+  pub told : printed ≡ refusalText CYCLE 1 0 ++ joined (circleLine sh) (around nodes)
+  pub circle : IsCircle (predecessors (tests sh)) nodes
+  pub path : (k : ℕ) → In k nodes → Path (predecessors (tests sh)) k k
+  -- "LINE is the first rule line that gives this edge; where none does (the closing of a child), the child's `stage=` line"
+  pub lines : (e : Edge) → In e (around nodes) → ToldOn sh e (edgeLine sh e)
+
+module _ {s lent : List ℕ} {n : ℕ} {out : List ℕ} (done : Checked s lent n out) where
+  -- "it is told exactly when CYCLE is": exactly when the graph of the sheet has a cycle; a sheet without one is told by its counts
+  pub check-circle : (sh : Sheet) → InOrder s sh → (Circled sh (take n out) ↔ Cycle (predecessors (tests sh))) × ((Cycle (predecessors (tests sh)) → ⊥) → take n out ≡ sheetTold sh)
+  check-circle sh q = ((λ c. circle-cycle _ (c .nodes) (c .circle), λ c. circled (checked-circle done sh q c)), checked-counts done sh q)
+    where
+      circled : (take n out ≡ refusalText CYCLE 1 0 ++ joined (circleLine sh) (around (circle sh))) × IsCircle (predecessors (tests sh)) (circle sh) × ((e : Edge) → In e (around (circle sh)) → ToldOn sh e (edgeLine sh e)) → Circled sh (take n out)
+      circled (t, c, l) = record { nodes = circle sh; told = t; circle = c; path = circle-path _ (circle sh) c; lines = l }
+
+  -- and so exactly when the step tells it
+  pub check-as-step : {c e room : List ℕ} {r : Reply} {left : List ℕ} → Stepped s c e room r left → (sh : Sheet) → InOrder s sh → Circled sh (take n out) ↔ (r ≡ refusedReply CYCLE 1 0)
+  check-as-step step sh q = Iff·trans (check-circle sh q .0) (Iff·symm (step-cycle step sh q))
+
+  -- "Refused: `refused=NUMBER 1 LINE`"
+  pub check-refuses : (m p l : ℕ) → paper 1 sheetBytes sheet s ≡ refused m p l → take n out ≡ refusalText m p l
+  check-refuses m p l q = checked done ∙ Checks.check-refused s m p l q
+
+-- "a card with `?` in every field and no for every status; proved to be accepted"
+pub blank-accepted : {s lent : List ℕ} {n : ℕ} {out : List ℕ} → Blanked s lent n out → (a : Accepted) → readSheet s ≡ taken a
+    → readCard (a .sheet .heads) (take n out) ≡ taken (record { entries = map (λ f. unasked) (a .sheet .heads .fields); statuses = map (λ x. false) (statuses (a .sheet .heads)) })
+blank-accepted {s} done a q = rw (blanked-card done a q) (Blank.blank-accepted s a q)
+
+-- FOR CLERK AND PACKING LEAD. "first for each status `NAME=always`, `NAME=never` or `NAME=open` (yes in every pattern, in none, in some), then each pattern as `outlook=` and the names of its statuses that are yes"; "Proved from the list that the door gives".
+pub record Foretold (s c e list printed : List ℕ) : Type 0 where
+  pub case : Case
+  pub read : readCase s c e ≡ taken case
+  pub told : printed ≡ prospectsTold (statusNames (statuses (case .sheet .heads))) (taken list)
+  -- the word of each status is meant of all patterns that some filling gives, and no other word is
+  pub means : (x : ℕ) → Means (tests (case .sheet)) (at case) x (prospect list x)
+  pub only : (x : ℕ) (w : Prospect) → Means (tests (case .sheet)) (at case) x w → w ≡ prospect list x
+
+module _ {input lent : List ℕ} {n : ℕ} {out : List ℕ} (done : Named input lent n out) {s c e room list : List ℕ} {r : Reply} (door : Looked s c e room r list) (papers : Holds input s c e) where
+  pub outlook-named : r .number ≡ 0 → Foretold s c e (take (r .count) list) (take n out)
+  outlook-named z = let (k, q, o) = door-listed door z in
+      record { case = k; read = q; told = named done ∙ printed-for papers k q ∙ ap (prospectsTold (statusNames (statuses (k .sheet .heads)))) o; means = λ x. Prospects.case-prospect k (case-holds s c e k q) _ o x .0; only = λ x. Prospects.case-prospect k (case-holds s c e k q) _ o x .1 }
+
+  -- "`outlook=refused` alone where MANY"
+  pub outlook-unnamed : (k : Case) → readCase s c e ≡ taken k → r ≡ refusedReply MANY 0 0 → take n out ≡ line (text "outlook") (text "refused")
+  outlook-unnamed k q m = named done ∙ printed-for papers k q ∙ many-told k (outlook-many door k q .0 m)
+
+-- "the names of its statuses that are yes": a bit of a pattern is a status of its side, and those named are those that are yes, in order
+pub names-yes : (names : List Name) (side : List Bool) → ((x : ℕ) → yesIn x (pattern side) ≡ is side x) × (yesNames names (pattern side) ≡ map (λ x. getD names x []) (keep (is side) (from 0 (length names))))
+names-yes names side = (Prospects.yes-pattern side, Prospects.named-side names side)

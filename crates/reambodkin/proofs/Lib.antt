@@ -1,8 +1,9 @@
 -- Laws of the doors, return by return:
 pub mod Laws
--- What is returned for any answer, and calls of the doors as they are declared:
+-- What is returned for any answer, and calls of the doors and of the functions behind the clerk's words, as they are declared:
 pub mod Script
 pub mod Calls
+pub mod Outputs
 -- The page to read: what document 01 demands, of the code:
 pub mod Demands
 pub mod Only

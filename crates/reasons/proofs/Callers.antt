@@ -54,7 +54,8 @@ module _ (hd : M.Heads) (w : WellHeads hd) where
   unfolding asHeads statuses
   all-statuses = sym (length-append (hd .stages) (hd .miles))
 
-  name-is : (x : ℕ) → x < length (statuses hd) → named (nameOf tables x) ≡ statusName hd x
+  -- the name in the tables is the name of the status
+  pub name-is : (x : ℕ) → x < length (statuses hd) → named (nameOf tables x) ≡ statusName hd x
   unfolding statusName statusNames
   name-is x h =
       ap (λ (s : Status). s .name) (sym (status-found tables x (omega (arith, all-statuses))) ∙ ap (λ hd. getD (statuses hd) x noStatus) (heads-again hd w))

@@ -1,7 +1,11 @@
--- No second answer fits the contract, and no other content of the lent space.
+-- No second answer fits the contracts, and no other content of the lent space.
 use denote.Ref.{now}
 use Rattle.theory.specs.Determined.{Determines, Settles, only}
+use Rattle.reasons.proofs.name_of.Reads as NameOf
 use Rattle.reasons.proofs.put_reasons.Reads as PutReasons
+
+pub name-of-only : Determines NameOf.Learnt
+name-of-only κs a r q s t = only
 
 pub put-reasons-only : Determines PutReasons.Learnt
 put-reasons-only κs a r q s t h g = only (h .next) (g .next)

@@ -77,7 +77,7 @@ fn put_parent(out: &mut [u8], at: usize, parent: u64) -> usize
 }
 
 // The packed name of a status.
-fn name_of(heads: Heads, x: usize) -> u64
+pub fn name_of(heads: Heads, x: usize) -> u64
     requires { ⌜ Sized heads × (x < 32) ⌝ }
     ensures { λ r. ⌜ r ≡ nameOf heads x ⌝ }
 {

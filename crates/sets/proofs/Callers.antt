@@ -1,13 +1,11 @@
--- What callers use: lists in the front of lent space, and how long they grow.
+-- What callers use: lists in the front of lent space.
 use Prim.Native.Nat.{ℕ, _+_, _-_, _≤_}
 use mathlib.Core.Path.{_≡_, refl, sym, _∙_, ap}
-use mathlib.Core.List.{List, [], _∷_, _++_, append-assoc, append-nil}
+use mathlib.Core.List.{List, [], _++_, append-assoc, append-nil}
 use native.Mathlib.Omega.{arith}
 use lib.ListN.{length, take, drop, length-append, length-drop, take-append-drop}
 use lib.Seq.{take-all, drop-length, length-take-le, take-at, drop-at, drop-drop}
 use borrow.Rule.Slice.PartMut.{putMid, post-is}
-use Rattle.meaning.specs.Outlook.{insert, ascending}
-use Rattle.theory.specs.Ascending.{Placing, lower, equal, higher, placing, insert-lower, insert-equal, insert-higher}
 use Rattle.sets.specs.Front.{Front}
 
 -- no list yet, and the list that stands there
@@ -47,20 +45,3 @@ front-tail {l} {xs} {ys} {a} {m} h f = record {
 
     back : putMid a (length xs - a) xs ys ≡ take a xs ++ ys
     back = ap (λ t. take a xs ++ (ys ++ t)) (post-is a (length xs) xs h ∙ drop-length xs) ∙ ap (λ t. take a xs ++ t) (append-nil ys)
-
--- a list grows by one at most where a number is put in
-pub insert-grows : (v : ℕ) (l : List ℕ) → (length l ≤ length (insert v l)) × (length (insert v l) ≤ length l + 1)
-unfolding insert
-insert-grows v [] = (omega arith, omega arith)
-insert-grows v (x ∷ l) = go (placing v x) (insert-grows v l)
-  where
-    go : Placing v x → (length l ≤ length (insert v l)) × (length (insert v l) ≤ length l + 1) → (length (x ∷ l) ≤ length (insert v (x ∷ l))) × (length (insert v (x ∷ l)) ≤ length (x ∷ l) + 1)
-    go (lower h) ih = rw (insert-lower v x l h) (omega arith, omega arith)
-    go (equal h) ih = rw (insert-equal v x l h) (omega arith, omega arith)
-    go (higher h) ih = rw (insert-higher v x l h) (omega (arith, ih .0), omega (arith, ih .1))
-
--- a list in order is at most as long
-pub ascending-few : (l : List ℕ) → length (ascending l) ≤ length l
-unfolding ascending
-ascending-few [] = omega arith
-ascending-few (x ∷ l) = omega (arith, ascending-few l, insert-grows x (ascending l) .1)

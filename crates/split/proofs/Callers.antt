@@ -46,7 +46,8 @@ paper-long s n e = sym (length-take-le n s (paper-fits s n e))
 
 -- THE WHOLE INPUT, whatever is printed for three papers
 
-front-of : (w o o1 : List ℕ) (r : ℕ) → Wrote 0 w o o1 r → Front w r o o1
+-- a text that was written at the start of the space
+pub front-of : (w o o1 : List ℕ) (r : ℕ) → Wrote 0 w o o1 r → Front w r o o1
 front-of w o o1 r v =
     let z : 0 + length w ≡ length w = omega arith in
     record { count = v .next ∙ z; list = v .space ∙ ap (λ n. w ++ drop n o) (sym (v .next)) }

@@ -1,7 +1,6 @@
 -- The tables of a well-formed sheet: they are sized, and they stand for that sheet.
 use Prim.Native.Nat.{ℕ, zero, suc, _+_, _-_, _*_, _<_, _≤_}
 use mathlib.Core.Path.{_≡_, refl, sym, _∙_, subst}
-use mathlib.Core.Bool.{Bool, true, false, true≢false}
 use mathlib.Core.List.{List, [], _∷_, _++_, map, append-assoc}
 use mathlib.Core.Option.{Option, none, some}
 use mathlib.Core.Logic.{inl, inr, ⊎-elim}
@@ -9,12 +8,11 @@ use native.Mathlib.Nat.{add-zero}
 use native.Mathlib.Omega.{arith}
 use lib.ListN.{length, take, drop, getD, length-append, length-map, List·getD-append, List·getD-map}
 use lib.Seq.{take-append-seam, drop-append-add, getD-append-add}
-use Rattle.meaning.specs.Text.{In, isIn, joined, from}
+use Rattle.meaning.specs.Text.{In, joined, from}
 use Rattle.meaning.specs.Name.{Name}
 use Rattle.meaning.specs.Sheet as M
 use Rattle.meaning.specs.Sheet.{Event, Status, eventNames, statusNames, statuses, stageOver}
-use Rattle.meaning.specs.Graph.{without}
-use Rattle.theory.specs.Lists.{in-cases, map-in, Once, is-in, in-is, without-in, once-without, length-without, at-place}
+use Rattle.theory.specs.Lists.{in-cases, map-in, at-place, few-below}
 use Rattle.theory.specs.Names.{Good}
 use Rattle.theory.specs.Formed.{Each, UnderIn, StatusIn, EventIn, WellHeads}
 use Rattle.text.specs.Packed.{packed, named}
@@ -36,20 +34,6 @@ mapped-at : {A : Type 0} (f : A → ℕ) (k : ℕ) (xs : List A) (i : ℕ) → (
 mapped-at f k [] i h = omega arith
 mapped-at f k (x ∷ xs) zero h = h x (inl refl)
 mapped-at f k (x ∷ xs) (suc i) h = mapped-at f k xs i (λ y m. h y (inr m))
-
--- different numbers below m are at most m
-below : (m f : ℕ) → f < suc m → (f ≡ m → ⊥) → f < m
-below m f h ne = omega arith
-
-few-below : (m : ℕ) (l : List ℕ) → Once l → Each (λ f. f < m) l → length l ≤ m
-few-below zero [] o h = omega arith
-few-below zero (x ∷ l) o h = absurd (omega (arith, h x (inl refl)))
-few-below (suc m) l o h = go (isIn m l) refl (few-below m)
-  where
-    go : (b : Bool) → isIn m l ≡ b → ((k : List ℕ) → Once k → Each (λ f. f < m) k → length k ≤ m) → length l ≤ suc m
-    go true e ih =
-        omega (arith, length-without m l o (is-in m l e), ih (without m l) (once-without m l o) (λ f i. let p = without-in f m l i in below m f (h f (p .0)) (p .1)))
-    go false e ih = omega (arith, ih l o (λ f i. below m f (h f i) (λ z. true≢false (sym (subst (λ k. isIn k l ≡ true) z (in-is f l i)) ∙ e))))
 
 -- THE FIELDS THAT EVENTS CARRY
 row-first : (c b : List ℕ) → take (length c) (padded 16 0 c ++ b) ≡ c

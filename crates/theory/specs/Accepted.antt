@@ -106,14 +106,14 @@ mark-length false = omega arith
 -- what is known of a sheet whose cards are written
 module _ (hd : Heads) (well : WellHeads hd) where
   -- the names of the statuses are good
-  names-good : Each Good (statusNames (statuses hd))
+  pub names-good : Each Good (statusNames (statuses hd))
   unfolding statusNames statuses
   names-good n i =
       let (s, j, e) = map-in (λ (s : Status). s .name) n (hd .stages ++ hd .miles) i in
       rw e (⊎-elim (λ k. well .stages s k .name) (λ k. well .miles s k .name) (in-cases s (hd .stages) (hd .miles) j))
 
   -- and as many as the statuses
-  names-length : length (statusNames (statuses hd)) ≡ length (statuses hd)
+  pub names-length : length (statusNames (statuses hd)) ≡ length (statuses hd)
   unfolding statusNames
   names-length = length-map (statuses hd) (λ (s : Status). s .name)
 

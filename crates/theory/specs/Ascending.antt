@@ -1,5 +1,5 @@
 -- Strictly ascending lists: a list put in order has the same members and goes up, and two that go up with the same members are one.
-use Prim.Native.Nat.{ℕ, zero, suc, _<_}
+use Prim.Native.Nat.{ℕ, zero, suc, _+_, _≤_, _<_}
 use mathlib.Core.Path.{_≡_, refl, sym, ap₂, subst}
 use mathlib.Core.List.{List, [], _∷_, _++_}
 use mathlib.Core.Logic.{_⊎_, inl, inr, ⊎-elim, _↔_}
@@ -148,3 +148,23 @@ up-equal (x ∷ l) (y ∷ k) u v same = ap₂ (λ a r. a ∷ r) head (up-equal l
         go : In p (x ∷ l) → In p l
         go (inl e) = let a = v .0 p m in absurd (omega (arith, head))
         go (inr n) = n
+
+-- HOW LONG IT GETS
+
+-- a number put in makes a list longer by one at most
+pub insert-grows : (v : ℕ) (l : List ℕ) → (length l ≤ length (insert v l)) × (length (insert v l) ≤ length l + 1)
+unfolding insert
+insert-grows v [] = (omega arith, omega arith)
+insert-grows v (x ∷ l) = go (placing v x) (insert-grows v l)
+  where
+    go : Placing v x → (length l ≤ length (insert v l)) × (length (insert v l) ≤ length l + 1)
+        → (length (x ∷ l) ≤ length (insert v (x ∷ l))) × (length (insert v (x ∷ l)) ≤ length (x ∷ l) + 1)
+    go (lower h) ih = rw (insert-lower v x l h) (omega arith, omega arith)
+    go (equal h) ih = rw (insert-equal v x l h) (omega arith, omega arith)
+    go (higher h) ih = rw (insert-higher v x l h) (omega (arith, ih .0), omega (arith, ih .1))
+
+-- so the members of a list, once, are no more than it has
+pub ascending-few : (l : List ℕ) → length (ascending l) ≤ length l
+unfolding ascending
+ascending-few [] = omega arith
+ascending-few (x ∷ l) = omega (arith, ascending-few l, insert-grows x (ascending l) .1)

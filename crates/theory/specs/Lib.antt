@@ -5,8 +5,9 @@ pub mod Determined
 -- Lists:
 pub mod Lists
 pub mod Ascending
--- Any graph: its testing orders, and rule systems over it:
+-- Any graph: its testing orders, the circle of one that has none, and rule systems over it:
 pub mod Orders
+pub mod Circles
 pub mod Systems
 -- Two nodes for each status, and any test of them on a side:
 pub mod Sides
@@ -63,8 +64,11 @@ pub mod Reasons
 pub mod Whys
 -- A case that was taken:
 pub mod Cases
--- What the clerk reads out:
+-- What the clerk is told: reasons, the check of a sheet with its circle, the blank card, and what may still come, status by status:
 pub mod Readout
+pub mod Checks
+pub mod Blank
+pub mod Prospects
 -- What is refused, and with which number; when each request is taken:
 pub mod Numbers
 pub mod Requests

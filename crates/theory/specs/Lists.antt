@@ -177,6 +177,11 @@ unfolding any
 any-same p q [] h = refl
 any-same p q (x ∷ xs) h = ap₂ _||_ (h x (inl refl)) (any-same p q xs (λ a k. h a (inr k)))
 
+pub keep-same : {A : Type 0} (p q : A → Bool) (xs : List A) → ((a : A) → In a xs → p a ≡ q a) → keep p xs ≡ keep q xs
+unfolding keep
+keep-same p q [] h = refl
+keep-same p q (x ∷ xs) h = ap₂ (λ b l. elim b [ true ↦ x ∷ l | false ↦ l ]) (h x (inl refl)) (keep-same p q xs (λ a k. h a (inr k)))
+
 -- tests and statements
 pub is-in : (i : ℕ) (l : List ℕ) → isIn i l ≡ true → In i l
 unfolding any
@@ -358,6 +363,29 @@ pub at-place : (o : List ℕ) (i : ℕ) → i < length o → In (getD o i 0) o
 at-place [] i h = absurd (omega arith)
 at-place (x ∷ o) zero h = inl refl
 at-place (x ∷ o) (suc i) h = inr (at-place o i (omega arith))
+
+-- no member twice: each at one place
+pub once-places : (o : List ℕ) → Once o → (i j : ℕ) → i < length o → j < length o → getD o i 0 ≡ getD o j 0 → i ≡ j
+once-places [] u i j h g e = absurd (omega arith)
+once-places (x ∷ o) u zero zero h g e = refl
+once-places (x ∷ o) u zero (suc j) h g e = absurd (u .0 (subst (λ w. In w o) (sym e) (at-place o j (omega arith))))
+once-places (x ∷ o) u (suc i) zero h g e = absurd (u .0 (subst (λ w. In w o) e (at-place o i (omega arith))))
+once-places (x ∷ o) u (suc i) (suc j) h g e = ap suc (once-places o (u .1) i j (omega arith) (omega arith) e)
+
+-- different numbers below m are at most m
+pub few-below : (m : ℕ) (l : List ℕ) → Once l → ((k : ℕ) → In k l → k < m) → length l ≤ m
+few-below zero [] u h = omega arith
+few-below zero (x ∷ l) u h = absurd (omega (arith, h x (inl refl)))
+few-below (suc m) l u h = go (isIn m l) refl (few-below m)
+  where
+    below : (k : ℕ) → k < suc m → (k ≡ m → ⊥) → k < m
+    below k g ne = omega arith
+
+    go : (b : Bool) → isIn m l ≡ b → ((k : List ℕ) → Once k → ((i : ℕ) → In i k → i < m) → length k ≤ m) → length l ≤ suc m
+    go true e ih =
+        let r = ih (without m l) (once-without m l u) (λ k i. let (j, ne) = without-in k m l i in below k (h k j) ne) in
+        omega (arith, length-without m l u (is-in m l e), r)
+    go false e ih = omega (arith, ih l u (λ k i. below k (h k i) (λ z. true≢false (sym (subst (λ w. isIn w l ≡ true) z (in-is k l i)) ∙ e))))
 
 -- a member of a list with one place set
 pub set-in : {A : Type 0} (xs : List A) (i : ℕ) (a x : A) → In x (set xs i a) → (x ≡ a) ⊎ In x xs

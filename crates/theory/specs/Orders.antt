@@ -1,6 +1,6 @@
 -- Testing orders of any graph: the order that is taken is one, where none is taken there is a cycle, and no graph has both.
 use Prim.Native.Nat.{ℕ, zero, suc, _<_}
-use mathlib.Core.Path.{_≡_, refl, sym, ap, subst}
+use mathlib.Core.Path.{_≡_, refl, sym, subst}
 use mathlib.Core.Bool.{Bool, true, false}
 use mathlib.Core.List.{List, [], _∷_, _++_}
 use mathlib.Core.Option.{Option, none, some}
@@ -10,7 +10,7 @@ use native.Mathlib.Decide.{ℕ-discrete}
 use lib.ListN.{length, getD}
 use Rattle.meaning.specs.Text.{In, from}
 use Rattle.meaning.specs.Graph.{Into, edge, Path, one, more, Cycle, Acyclic, Inside, TestingOrder, waits, firstFree, without, then, first, orderOf, orderFor}
-use Rattle.theory.specs.Lists.{in-left, is-in, common, apart, in-without, without-in, Once, once-without, length-without, from-in, in-from, from-once, from-length, placed-at, at-place}
+use Rattle.theory.specs.Lists.{in-left, is-in, common, apart, in-without, without-in, Once, once-without, length-without, from-in, in-from, from-once, from-length, placed-at, at-place, once-places}
 
 -- THE VIEW FROM THE FRONT
 
@@ -19,13 +19,10 @@ abbrev pub Sorted : Into → List ℕ → Type 0
 Sorted into [] = Unit {0}
 Sorted into (x ∷ o) = ((y : ℕ) → In y (x ∷ o) → edge into y x ≡ true → ⊥) × (In x o → ⊥) × Sorted into o
 
--- a sorted list has each node at one place
-sorted-once : (into : Into) (o : List ℕ) → Sorted into o → (i j : ℕ) → i < length o → j < length o → getD o i 0 ≡ getD o j 0 → i ≡ j
-sorted-once into [] s i j h g e = absurd (omega arith)
-sorted-once into (x ∷ o) s zero zero h g e = refl
-sorted-once into (x ∷ o) s zero (suc j) h g e = absurd (s .1 (subst (λ w. In w o) (sym e) (at-place o j (omega arith))))
-sorted-once into (x ∷ o) s (suc i) zero h g e = absurd (s .1 (subst (λ w. In w o) e (at-place o i (omega arith))))
-sorted-once into (x ∷ o) s (suc i) (suc j) h g e = ap suc (sorted-once into o (s .2) i j (omega arith) (omega arith) e)
+-- a sorted list has no node twice
+sorted-distinct : (into : Into) (o : List ℕ) → Sorted into o → Once o
+sorted-distinct into [] s = tt
+sorted-distinct into (x ∷ o) s = (s .1, sorted-distinct into o (s .2))
 
 -- in a sorted list each edge leads to a later place
 sorted-later : (into : Into) (o : List ℕ) → Sorted into o → (i j : ℕ) → i < length o → j < length o → edge into (getD o i 0) (getD o j 0) ≡ true → i < j
@@ -39,7 +36,7 @@ pub order-from : (n : ℕ) (into : Into) (o : List ℕ) → ((k : ℕ) → k < n
 order-from n into o every only s = record {
   every = λ k h. placed-at o k (every k h);
   only = λ i h. only (getD o i 0) (at-place o i h);
-  once = sorted-once into o s;
+  once = once-places o (sorted-distinct into o s);
   later = sorted-later into o s;
 }
 
@@ -102,12 +99,12 @@ module _ (into : Into) where
           over b (a, inr ma, q) = (a, ma, q)
 
   -- what is found when a free one of the nodes ks is looked for: each of them waits, or this one waits for none
-  abbrev Found : List ℕ → List ℕ → Option ℕ → Type 0
+  abbrev pub Found : List ℕ → List ℕ → Option ℕ → Type 0
   Found left ks none = (k : ℕ) → In k ks → waits into left k ≡ true
   Found left ks (some k) = In k ks × (waits into left k ≡ false)
 
   -- that is what is found
-  found : (left ks : List ℕ) → Found left ks (firstFree into left ks)
+  pub found : (left ks : List ℕ) → Found left ks (firstFree into left ks)
   unfolding firstFree
   found left [] = λ k m. absurd m
   found left (x ∷ ks) = at (waits into left x) refl (firstFree into left ks) (found left ks)

@@ -2,16 +2,16 @@
 use Prim.Native.Nat.{ℕ, zero, suc, _+_, _*_, _-_, _≤_}
 use mathlib.Core.Path.{_≡_, refl, sym, subst}
 use mathlib.Core.Bool.{Bool, true, false, cond}
-use mathlib.Core.List.{List, [], _∷_, _++_, map}
+use mathlib.Core.List.{List, [], _∷_, _++_}
 use mathlib.Core.Option.{Option, none, some}
-use mathlib.Core.Logic.{inl, inr, ⊎-elim}
+use mathlib.Core.Logic.{inl, inr}
 use native.Mathlib.Omega.{arith}
 use native.Mathlib.Nat.{suc-mul}
-use lib.ListN.{length, length-append, length-take, length-drop, getD, take, drop}
+use lib.ListN.{length, length-append, length-take, length-drop, getD, drop}
 use Rattle.meaning.specs.Text.{text, joined, from}
 use Rattle.meaning.specs.Name.{Name}
 use Rattle.meaning.specs.Number.{decimal}
-use Rattle.meaning.specs.Sheet.{Heads, Sheet, Status, Rule, statuses, statusNames, stageOver}
+use Rattle.meaning.specs.Sheet.{Heads, Sheet, Rule, statuses, statusNames, stageOver}
 use Rattle.meaning.specs.Card.{is}
 use Rattle.meaning.specs.Tests.{Test, testOf, ruleTests, ruleLine, statusLine}
 use Rattle.meaning.specs.Dependency.{testsFor}
@@ -20,12 +20,12 @@ use Rattle.meaning.specs.Why.{Stop, trigger-not-met, home-not-open, condition-f
 use Rattle.meaning.specs.Desk.{lineLength}
 use Rattle.meaning.specs.Doors.{Case, reasonsIn}
 use Rattle.meaning.specs.Clerk.{behindLines, lineAt, kindWords, statusName, overName, changeSign, ruleTold, parentTold, kindTold, whyLine}
-use Rattle.theory.specs.Lists.{in-cases, map-in}
 use Rattle.theory.specs.Names.{Good, good-short}
 use Rattle.theory.specs.Counts.{decimal-few}
 use Rattle.theory.specs.Formed.{Each, WellHeads}
 use Rattle.theory.specs.Sums.{total, total-both, joined-total, counted-once}
 use Rattle.theory.specs.Papers.{Papers}
+use Rattle.theory.specs.Accepted.{names-good}
 use Rattle.theory.specs.Cases.{at, after}
 
 -- THE REASONS
@@ -125,11 +125,9 @@ name-short [] h x = omega arith
 name-short (n ∷ ns) h zero = good-short n (h n (inl refl))
 name-short (n ∷ ns) h (suc x) = name-short ns (λ m i. h m (inr i)) x
 
-status-short : (hd : Heads) → WellHeads hd → (x : ℕ) → length (statusName hd x) ≤ 12
-unfolding statusName statusNames statuses
-status-short hd well = name-short (map (λ (s : Status). s .name) (hd .stages ++ hd .miles)) λ n i.
-    let (s, j, e) = map-in (λ (s : Status). s .name) n (hd .stages ++ hd .miles) i in
-    subst Good (sym e) (⊎-elim (λ k. well .stages s k .name) (λ k. well .miles s k .name) (in-cases s (hd .stages) (hd .miles) j))
+pub status-short : (hd : Heads) → WellHeads hd → (x : ℕ) → length (statusName hd x) ≤ 12
+unfolding statusName
+status-short hd well = name-short (statusNames (statuses hd)) (names-good hd well)
 
 words-short : (k : Kind) → length (kindWords k) ≤ 17
 words-short held = omega arith

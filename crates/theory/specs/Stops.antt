@@ -86,13 +86,13 @@ abbrev pub LinesUp : List Test → Type 0
 LinesUp [] = Unit {0}
 LinesUp (t ∷ ts) = ((u : Test) → In u ts → t .line < u .line) × LinesUp ts
 
-rules-up : (hd : Heads) (l : ℕ) (rs : List Rule) → LinesUp (ruleTests hd l rs)
+pub rules-up : (hd : Heads) (l : ℕ) (rs : List Rule) → LinesUp (ruleTests hd l rs)
 unfolding ruleTests testOf
 rules-up hd l [] = tt
 rules-up hd l (r ∷ rs) = (λ u i. rule-lines hd (suc l) rs u i .0, rules-up hd (suc l) rs)
 
 -- and so do some of them
-keep-up : (p : Test → Bool) (ts : List Test) → LinesUp ts → LinesUp (keep p ts)
+pub keep-up : (p : Test → Bool) (ts : List Test) → LinesUp ts → LinesUp (keep p ts)
 unfolding keep
 keep-up p [] h = tt
 keep-up p (t ∷ ts) h = go (p t) (keep-up p ts (h .1))

@@ -1,13 +1,15 @@
 -- Sums over lists, and over the tests of all statuses: where each status takes those of one change, each test counts at most once.
-use Prim.Native.Nat.{ℕ, zero, suc, _+_, _/_, _≤_}
+use Prim.Native.Nat.{ℕ, zero, suc, _+_, _*_, _/_, _≤_}
 use mathlib.Core.Path.{_≡_, refl, _∙_, ap}
 use mathlib.Core.Bool.{Bool, true, false, cond}
 use mathlib.Core.List.{List, [], _∷_, _++_}
+use mathlib.Core.Logic.{inl, inr}
 use native.Mathlib.Omega.{arith}
+use native.Mathlib.Nat.{suc-mul}
 use lib.Dec.{eqb, leb}
 use lib.ListN.{length, length-append}
 use borrow.Author.Tests.{eqb-true, leb-true, le-leb, lt-leb}
-use Rattle.meaning.specs.Text.{keep, joined, from}
+use Rattle.meaning.specs.Text.{In, keep, joined, from}
 use Rattle.meaning.specs.Tests.{Test}
 use Rattle.meaning.specs.Dependency.{testsFor}
 use Rattle.meaning.specs.Why.{changeOf}
@@ -35,6 +37,12 @@ module _ {A : Type 0} (w : A → ℕ) where
   unfolding total joined
   joined-total f h [] = omega arith
   joined-total f h (x ∷ xs) = omega (arith, h x, joined-total f h xs, length-append (f x) (joined f xs))
+
+-- lines of at most b bytes each
+pub joined-most : {A B : Type 0} (f : A → List B) (b : ℕ) (xs : List A) → ((x : A) → In x xs → length (f x) ≤ b) → length (joined f xs) ≤ length xs * b
+unfolding joined
+joined-most f b [] h = omega arith
+joined-most f b (x ∷ xs) h = omega (arith, h x (inl refl), joined-most f b xs (λ y i. h y (inr i)), suc-mul (length xs) b, length-append (f x) (joined f xs))
 
 -- THE LINES OF A STATUS
 

@@ -36,7 +36,7 @@ fn survey(seed: u64, count: u64) -> ExitCode {
     let (table, all_met) = statistic.table();
     say(&table);
     if !all_met && count >= ENOUGH_CASES {
-        say("a number of a paper or a kind of reason was never met\n");
+        say("a number of a paper, a kind of reason or a length of circle was never met\n");
         return ExitCode::FAILURE;
     }
     say(&format!("{count} cases from seed {seed}, all as in the book\n"));

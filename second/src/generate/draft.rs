@@ -320,9 +320,10 @@ pub fn nested(random: &mut Random, leaf: &str, depth: usize) -> String {
 
 /// Some well-formed name: short, of full length, or close to a word of the papers.
 pub fn name(random: &mut Random) -> String {
-    const CLOSE: [&str; 22] = [
+    const CLOSE: [&str; 28] = [
         "ons", "ifs", "or1", "ands", "nots", "nothing", "ending", "end1", "yes", "no", "case", "model", "field",
-        "event", "stage", "mile", "rule", "o", "i", "n", "e", "orandnot",
+        "event", "stage", "mile", "rule", "o", "i", "n", "e", "orandnot", "refused", "outlook", "always", "never",
+        "open", "circle",
     ];
     const FIRST: &[u8] = b"abcdefghijklmnopqrstuvwxyz";
     const LATER: &[u8] = b"abcdefghijklmnopqrstuvwxyz0123456789";

@@ -1,46 +1,49 @@
 -- LONG, or the three papers of the input.
 -- Assumes nothing.
 use borrow.Author.Needs.{needs}
-use Rattle.split.proofs.Callers.{splitting}
-use Rattle.output.proofs.Laws.{desking}
+use Rattle.meaning.specs.Desk.{deskOutput}
+use Rattle.split.proofs.Callers.{splitting, input-long, input-done}
+use Rattle.output.proofs.Laws.{ofPapers, refusal-room}
 use Rattle.output.proofs.desk_output.Statement.{statement}
 use Rattle.output.proofs.desk_output.Tie as tie
 
 put-refusal-requires : tie.Need-put-refusal-requires
-put-refusal-requires c κs = search (needs, splitting, desking)
+put-refusal-requires c κs = search (needs, splitting, refusal-room)
 
 same-length : tie.Need-same-length
-same-length c = search (needs, splitting, desking)
+same-length c = search (needs, splitting, refusal-room)
 
 returns : tie.Need-returns
-returns c = search (needs, splitting, desking)
+unfolding deskOutput
+returns c = search (needs, input-long ofPapers)
 
 paper-len-requires : tie.Need-paper-len-requires
-paper-len-requires c κs = search (needs, splitting, desking)
+paper-len-requires c κs = search (needs, splitting, refusal-room)
 
 rest-requires : tie.Need-rest-requires
-rest-requires c κs = search (needs, splitting, desking)
+rest-requires c κs = search (needs, splitting, refusal-room)
 
 paper-len-requires-2 : tie.Need-paper-len-requires-2
-paper-len-requires-2 c κs = search (needs, splitting, desking)
+paper-len-requires-2 c κs = search (needs, splitting, refusal-room)
 
 slice-aggregate-print-case : tie.Need-slice-aggregate-print-case
-slice-aggregate-print-case c = search (needs, splitting, desking)
+slice-aggregate-print-case c = search (needs, splitting, refusal-room)
 
 slice-aggregate-print-case-2 : tie.Need-slice-aggregate-print-case-2
-slice-aggregate-print-case-2 c = search (needs, splitting, desking)
+slice-aggregate-print-case-2 c = search (needs, splitting, refusal-room)
 
 rest-requires-2 : tie.Need-rest-requires-2
-rest-requires-2 c κs = search (needs, splitting, desking)
+rest-requires-2 c κs = search (needs, splitting, refusal-room)
 
 print-case-requires : tie.Need-print-case-requires
-print-case-requires c κs = search (needs, splitting, desking)
+print-case-requires c κs = search (needs, splitting, refusal-room)
 
 same-length-2 : tie.Need-same-length-2
-same-length-2 c = search (needs, splitting, desking)
+same-length-2 c = search (needs, splitting, refusal-room)
 
 returns-2 : tie.Need-returns-2
-returns-2 c = search (needs, splitting, desking)
+unfolding deskOutput
+returns-2 c = search (needs, splitting, input-done ofPapers)
 
 pub desk-output-spec : {M : Type 1} → statement M
 desk-output-spec =

@@ -1,7 +1,9 @@
 -- A refusal of the sheet, one of card or event line, or what is printed for the case.
 -- Assumes nothing.
 use borrow.Author.Needs.{needs}
-use Rattle.output.proofs.Laws.{casing}
+use Rattle.meaning.specs.Desk.{printed}
+use Rattle.case.proofs.Callers.{printed-sheet, printed-told}
+use Rattle.output.proofs.Laws.{ofCase, casing}
 use Rattle.output.proofs.print_case.Statement.{statement}
 use Rattle.output.proofs.print_case.Tie as tie
 
@@ -15,7 +17,8 @@ same-length : tie.Need-same-length
 same-length c = search (needs, casing)
 
 returns : tie.Need-returns
-returns c = search (needs, casing)
+unfolding printed
+returns c = search (needs, printed-sheet ofCase)
 
 read-told-requires : tie.Need-read-told-requires
 read-told-requires c κs = search (needs, casing)
@@ -27,7 +30,8 @@ same-length-2 : tie.Need-same-length-2
 same-length-2 c = search (needs, casing)
 
 returns-2 : tie.Need-returns-2
-returns-2 c = search (needs, casing)
+unfolding printed
+returns-2 c = search (needs, printed-told ofCase)
 
 print-read-requires : tie.Need-print-read-requires
 print-read-requires c κs = search (needs, casing)

@@ -1,7 +1,8 @@
 -- The outlook: the line of a refusal, or the lines of the list that the array then holds.
 -- Assumes nothing.
 use borrow.Author.Needs.{needs}
-use Rattle.output.proofs.Lines.{part-long, outlooking}
+use Rattle.outlook.proofs.Callers.{parts-of}
+use Rattle.output.proofs.Lines.{outlooking}
 use Rattle.output.proofs.put_outlook.Statement.{statement}
 use Rattle.output.proofs.put_outlook.Tie as tie
 
@@ -21,10 +22,10 @@ returns : tie.Need-returns
 returns c = search (needs, outlooking)
 
 array-share-prefix-patterns : tie.Need-array-share-prefix-patterns
-array-share-prefix-patterns c = search (needs, outlooking)
+array-share-prefix-patterns c = search (needs, parts-of)
 
 slice-aggregate-put-patterns : tie.Need-slice-aggregate-put-patterns
-slice-aggregate-put-patterns c = part-long _ _ (search (needs, outlooking))
+slice-aggregate-put-patterns c = search (needs, parts-of)
 
 put-patterns-requires : tie.Need-put-patterns-requires
 put-patterns-requires c κs = search (needs, outlooking)

@@ -1,7 +1,9 @@
 -- The sheet's refusal, that of card or event line, or the reasons.
 -- Assumes nothing.
 use borrow.Author.Needs.{needs}
-use Rattle.readout.proofs.Laws.{casing}
+use Rattle.meaning.specs.Clerk.{whyPrinted}
+use Rattle.case.proofs.Callers.{printed-sheet, printed-told}
+use Rattle.readout.proofs.Laws.{ofCase, casing}
 use Rattle.readout.proofs.print_why.Statement.{statement}
 use Rattle.readout.proofs.print_why.Tie as tie
 
@@ -15,7 +17,8 @@ same-length : tie.Need-same-length
 same-length c = search needs
 
 returns : tie.Need-returns
-returns c = search (needs, casing)
+unfolding whyPrinted
+returns c = search (needs, printed-sheet ofCase)
 
 read-told-requires : tie.Need-read-told-requires
 read-told-requires c κs = search (needs, casing)
@@ -27,7 +30,8 @@ same-length-2 : tie.Need-same-length-2
 same-length-2 c = search needs
 
 returns-2 : tie.Need-returns-2
-returns-2 c = search (needs, casing)
+unfolding whyPrinted
+returns-2 c = search (needs, printed-told ofCase)
 
 moment-of-requires : tie.Need-moment-of-requires
 moment-of-requires c κs = search needs

@@ -1,19 +1,21 @@
 -- LONG, or the three papers of the input.
 -- Assumes nothing.
 use borrow.Author.Needs.{needs}
-use Rattle.split.proofs.Callers.{splitting}
-use Rattle.readout.proofs.Laws.{telling}
+use Rattle.meaning.specs.Clerk.{whyOutput}
+use Rattle.split.proofs.Callers.{splitting, input-long, input-done}
+use Rattle.readout.proofs.Laws.{ofPapers, refusal-room}
 use Rattle.readout.proofs.why_output.Statement.{statement}
 use Rattle.readout.proofs.why_output.Tie as tie
 
 put-refusal-requires : tie.Need-put-refusal-requires
-put-refusal-requires c κs = search (needs, splitting, telling)
+put-refusal-requires c κs = search (needs, splitting, refusal-room)
 
 same-length : tie.Need-same-length
 same-length c = search needs
 
 returns : tie.Need-returns
-returns c = search (needs, splitting, telling)
+unfolding whyOutput
+returns c = search (needs, input-long ofPapers)
 
 paper-len-requires : tie.Need-paper-len-requires
 paper-len-requires c κs = search needs
@@ -25,10 +27,10 @@ paper-len-requires-2 : tie.Need-paper-len-requires-2
 paper-len-requires-2 c κs = search needs
 
 slice-aggregate-print-why : tie.Need-slice-aggregate-print-why
-slice-aggregate-print-why c = search (needs, splitting, telling)
+slice-aggregate-print-why c = search (needs, splitting, refusal-room)
 
 slice-aggregate-print-why-2 : tie.Need-slice-aggregate-print-why-2
-slice-aggregate-print-why-2 c = search (needs, splitting, telling)
+slice-aggregate-print-why-2 c = search (needs, splitting, refusal-room)
 
 rest-requires-2 : tie.Need-rest-requires-2
 rest-requires-2 c κs = search needs
@@ -40,7 +42,8 @@ same-length-2 : tie.Need-same-length-2
 same-length-2 c = search needs
 
 returns-2 : tie.Need-returns-2
-returns-2 c = search (needs, splitting, telling)
+unfolding whyOutput
+returns-2 c = search (needs, splitting, input-done ofPapers)
 
 pub why-output-spec : {M : Type 1} → statement M
 why-output-spec =

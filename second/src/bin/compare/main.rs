@@ -1,6 +1,9 @@
 //! `compare [SEED] [COUNT]`: the library's C functions against the second implementation, on the document's examples
 //! and on generated papers; prints the first difference and exits 1, or a summary and exits 0.
 
+#[cfg(feature = "desk")]
+mod programs;
+
 use std::process::ExitCode;
 
 use second::{
@@ -32,27 +35,20 @@ fn compare(seed: u64, count: u64) -> ExitCode {
 }
 
 fn compare_all(seed: u64, count: u64) -> Result<(), String> {
+    say(&format!("{count} cases from seed {seed}\n"));
     let mut comparison = Comparison { statistic: Statistic::default(), calls: 0 };
     #[cfg(feature = "desk")]
-    for (program, examples) in
-        [(DESK, second::examples::desk_examples()), (CLERK_WHY, second::examples::clerk_examples())]
-    {
-        for example in examples {
-            comparison.printed(&program, &example.input, example.output.as_bytes()).map_err(|difference| {
-                format!("example {}: {difference}\n{}", example.name, example.input.escape_ascii())
-            })?;
-        }
-    }
+    comparison.examples_of_programs()?;
     let corners = corner_examples().into_iter().map(|example| (example.name, example.papers));
     let whys = why_examples().into_iter().map(|example| (example.name.to_string(), example.papers));
     for (name, papers) in corners.chain(whys) {
-        comparison.papers(&papers).map_err(|difference| format!("example {name}: {difference}\n{papers}"))?;
+        comparison.papers(&papers, 0).map_err(|difference| format!("example {name}: {difference}\n{papers}"))?;
     }
     // The examples are no part of the statistic.
     comparison.statistic = Statistic::default();
     for index in 0..count {
         let papers = generate(seed, index);
-        let compared = comparison.papers(&papers);
+        let compared = comparison.papers(&papers, index);
         let checked = compared.and_then(|()| {
             check_by_book(&papers, &mut random_of(!seed, index))
                 .map_err(|difference| format!("by the book: {difference}"))
@@ -62,7 +58,7 @@ fn compare_all(seed: u64, count: u64) -> Result<(), String> {
     let (table, all_met) = comparison.statistic.table();
     say(&table);
     if !all_met && count >= ENOUGH_CASES {
-        return Err("a number of a paper or a kind of reason was never met".into());
+        return Err("a number of a paper, a kind of reason or a length of circle was never met".into());
     }
     say(&format!("{count} cases from seed {seed}, {} calls, no difference\n", comparison.calls));
     Ok(())
@@ -84,19 +80,6 @@ struct ListDoor {
 
 const OUTLOOK: ListDoor = ListDoor { request: Request::Outlook, into: reambodkin::outlook_into };
 const WHY: ListDoor = ListDoor { request: Request::Why, into: reambodkin::why_into };
-
-/// What a program prints, as the library has it, and the least space for it.
-#[cfg(feature = "desk")]
-struct Printer {
-    request: Request,
-    print: fn(&[u8], &mut [u8]) -> usize,
-    least: usize,
-}
-
-#[cfg(feature = "desk")]
-const DESK: Printer = Printer { request: Request::Desk, print: reambodkin::desk, least: 81_920 };
-#[cfg(feature = "desk")]
-const CLERK_WHY: Printer = Printer { request: Request::ClerkWhy, print: reambodkin::clerk_why, least: 49_152 };
 
 /// What stands in lent space before a call.
 fn pattern(index: usize) -> u32 {
@@ -120,7 +103,8 @@ fn rooms(need: Option<usize>, more: usize) -> Vec<usize> {
 }
 
 impl Comparison {
-    fn papers(&mut self, papers: &Papers) -> Result<(), String> {
+    /// All requests over the papers of a case.
+    fn papers(&mut self, papers: &Papers, case: u64) -> Result<(), String> {
         let answers = Answers::of(papers);
         answers.count(papers, &mut self.statistic);
         for room in rooms(answers.step.as_ref().ok().map(|next| next.card.len()), 1_024) {
@@ -132,10 +116,12 @@ impl Comparison {
         for room in rooms(answers.why.as_ref().ok().map(Vec::len), 160) {
             self.list(&WHY, papers, &answers.why, room)?;
         }
-        #[cfg(feature = "desk")]
-        for (program, output) in [(DESK, &answers.desk), (CLERK_WHY, &answers.clerk_why)] {
-            self.printed(&program, &papers.joined(), output)?;
-        }
+        self.programs(papers, &answers, case)
+    }
+
+    /// Without the feature the library's programs are not asked.
+    #[cfg(not(feature = "desk"))]
+    fn programs(&mut self, _: &Papers, _: &Answers, _: u64) -> Result<(), String> {
         Ok(())
     }
 
@@ -214,39 +200,6 @@ impl Comparison {
                 "reply with {} places: library {number}, {reply:?}, second {expected:?}",
                 places.max(5)
             ));
-        }
-        Ok(())
-    }
-
-    /// What a program prints, in the least space for it and in more; now and then in too little, which must stay as it
-    /// is.
-    #[cfg(feature = "desk")]
-    fn printed(&mut self, program: &Printer, input: &[u8], expected: &[u8]) -> Result<(), String> {
-        /// More than a program can print.
-        const SPACE: usize = 96 << 10;
-        static BEFORE: std::sync::LazyLock<Vec<u8>> =
-            std::sync::LazyLock::new(|| (0..SPACE).map(byte_pattern).collect());
-        let name = program.request.name();
-        self.calls += 1;
-        let mut space = BEFORE.clone();
-        if self.calls.is_multiple_of(8) {
-            let length = (program.print)(input, &mut space[..program.least - 1]);
-            if length != 0 || space != *BEFORE {
-                return Err(format!("{name} in too little space: {length} bytes told, or the space is touched"));
-            }
-        }
-        let lent = if self.calls.is_multiple_of(2) { program.least } else { SPACE };
-        let length = (program.print)(input, &mut space[..lent]);
-        if length > lent || space[..length] != *expected {
-            return Err(format!(
-                "{name}, {length} bytes:\n{}\nsecond, {} bytes:\n{}",
-                space[..length.min(lent)].escape_ascii(),
-                expected.len(),
-                expected.escape_ascii()
-            ));
-        }
-        if space[length..] != BEFORE[length..] {
-            return Err(format!("{name}: the space behind its output is touched"));
         }
         Ok(())
     }

@@ -1,0 +1,2 @@
+-- The tables from which a blank card is written:
+pub mod Blank

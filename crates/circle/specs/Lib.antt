@@ -1,0 +1,2 @@
+-- What the code answers:
+pub mod Answers

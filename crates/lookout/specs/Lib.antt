@@ -1,0 +1,2 @@
+-- What is printed for a case, on its tables:
+pub mod Texts

@@ -1,0 +1,60 @@
+-- The names of a pattern. The loop: those of the statuses that are left are still to be written.
+-- Assumes nothing.
+use borrow.Author.Needs.{needs}
+use Prim.Native.Nat.{_-_}
+use lib.ListN.{length, drop}
+use mathlib.Core.Bool.{false}
+use Rattle.space.proofs.Laws.{Left}
+use Rattle.prospect.specs.Lines.{namesText}
+use Rattle.prospect.proofs.Laws.{names}
+use Rattle.prospect.proofs.put_names.Statement.{statement}
+use Rattle.prospect.proofs.put_names.Tie as tie
+
+abbrev Inv-loop : tie.InvT-loop
+Inv-loop out₀ at names pattern to₀ behind₀ p₀ i₀ out to behind p i = Left at (namesText false names pattern) out₀ to (namesText behind (drop i names) p) out
+
+abbrev μ-loop : tie.MeasureT-loop
+μ-loop out₀ at names pattern to₀ behind₀ p₀ i₀ out to behind p i = length names - i
+
+loop-holds : tie.Need-loop-holds Inv-loop μ-loop
+loop-holds c = search (needs, names)
+
+mul-put-yes : tie.Need-mul-put-yes Inv-loop μ-loop
+mul-put-yes c = search (needs, names)
+
+shared-slice-read-put-yes : tie.Need-shared-slice-read-put-yes Inv-loop μ-loop
+shared-slice-read-put-yes c = search (needs, names)
+
+put-yes-requires : tie.Need-put-yes-requires Inv-loop μ-loop
+put-yes-requires c κs = search (needs, names)
+
+add-i : tie.Need-add-i Inv-loop μ-loop
+add-i c = search (needs, names)
+
+loop-less : tie.Need-loop-less Inv-loop μ-loop
+loop-less c = search (needs, names)
+
+loop-again : tie.Need-loop-again Inv-loop μ-loop
+loop-again c = search (needs, names)
+
+same-length : tie.Need-same-length Inv-loop μ-loop
+same-length c = search (needs, names)
+
+returns : tie.Need-returns Inv-loop μ-loop
+returns c = search (needs, names)
+
+pub put-names-spec : {M : Type 1} → statement M
+put-names-spec =
+    tie.close
+    (tie.spec
+    Inv-loop
+    μ-loop
+    loop-holds
+    mul-put-yes
+    shared-slice-read-put-yes
+    put-yes-requires
+    add-i
+    loop-less
+    loop-again
+    same-length
+    returns)

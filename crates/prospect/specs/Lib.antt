@@ -1,0 +1,2 @@
+-- The lines of an outlook in names, on packed names and bits:
+pub mod Lines

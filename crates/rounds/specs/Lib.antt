@@ -1,0 +1,2 @@
+-- What is told of a sheet alone, on its tables:
+pub mod Lines
