@@ -86,12 +86,19 @@ compare() {
     within second cargo run --quiet --locked --offline --release --features desk --bin compare -- "$1" "$2"
 }
 
+# What the files keep among themselves: these words of tools/house, and the others as the tree comes into order.
+house_words=(imports laws edges sizes statements)
+
 # What needs no proof and no archive. The programs are not built yet: the commands are tried with stand-ins.
 before_proofs() {
     local programs=second/target/release
     step 'layout of crates/' rt fmt --check
+    step 'the papers that are made' tools/papers --check
+    step "the papers' own check" tests/papers
     step 'layout of rust/' within rust cargo fmt --check
     step 'layout of second/' within second cargo fmt --check
+    step 'the house' tools/house "${house_words[@]}"
+    step "the house's own check" tests/house
     step 'tests of second/' cargo_tests second --release
     step 'tests of rust/ without the archive' cargo_tests rust --no-default-features
     step 'stand-ins for the programs' within second cargo build --quiet --locked --offline --release --bin desk --bin clerk

@@ -3,8 +3,8 @@ use libc::STDOUT_FILENO;
 
 // Prints what comes of the whole input.
 fn answer(input: &[u8]) {
-    let mut out = [0u8; 81920];
-    let n = output::desk_output(input, &mut out);
+    let mut out = [0u8; desk_rooms::DESK];
+    let n = desk_output::desk_output(input, &mut out);
     io::write_all(STDOUT_FILENO, &out[..n]);
 }
 
@@ -15,7 +15,7 @@ fn file(path: &[u8]) {
         os::fail(path);
         return;
     }
-    let mut input = [0u8; 34305];
+    let mut input = [0u8; limits::DESK_BYTES + 1];
     let n = io::read_full(fd, &mut input);
     libc::close(fd);
     io::write_all(STDOUT_FILENO, path);

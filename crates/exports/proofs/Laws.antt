@@ -6,6 +6,7 @@ use native.Mathlib.Omega.{arith}
 use borrow.Author.Tests.{le-leb, lt-leb}
 use lib.ListN.{length, drop, set}
 use Rattle.sets.specs.Front.{Front}
+use Rattle.meaning.specs.Refusal.{ROOM}
 use Rattle.reply.specs.declared.Reply.{Reply}
 use Rattle.exports.specs.Exports.{numbers, withPlaces, numberTold, placesTold, withRoom}
 
@@ -14,7 +15,8 @@ pub one-of-five : (n : ℕ) (places : List ℕ) → 5 ≤ length places → n < 
 one-of-five n places h k = omega arith
 
 -- five places, each written
-pub five-put : (a b c d e : ℕ) (places : List ℕ) → 5 ≤ length places → set (set (set (set (set places 0 a) 1 b) 2 c) 3 d) 4 e ≡ a ∷ b ∷ c ∷ d ∷ e ∷ drop 5 places
+pub five-put : (a b c d e : ℕ) (places : List ℕ) → 5 ≤ length places
+    → set (set (set (set (set places 0 a) 1 b) 2 c) 3 d) 4 e ≡ a ∷ b ∷ c ∷ d ∷ e ∷ drop 5 places
 five-put a b c d e (p ∷ q ∷ r ∷ s ∷ t ∷ rest) h = refl
 five-put a b c d e (p ∷ q ∷ r ∷ s ∷ []) h = absurd (omega arith)
 five-put a b c d e (p ∷ q ∷ r ∷ []) h = absurd (omega arith)
@@ -30,9 +32,9 @@ module _ (places : List ℕ) (few : length places < 5) where
   unfolding withPlaces
   with-few asked otherwise = rw (lt-leb 5 (length places) few)
 
-  pub few-number : (x : Reply) → 9 ≡ numberTold places x
+  pub few-number : (x : Reply) → ROOM ≡ numberTold places x
   unfolding numberTold
-  few-number x = sym (with-few _ 9)
+  few-number x = sym (with-few _ ROOM)
 
   pub few-places : (x : Reply) → places ≡ placesTold places x
   unfolding placesTold
@@ -50,7 +52,7 @@ module _ (places : List ℕ) (enough : 5 ≤ length places) where
   module _ (told x : Reply) (is : told ≡ x) where
     pub told-number : (n : ℕ) → n ≡ told .number → n ≡ numberTold places x
     unfolding numberTold
-    told-number n e = e ∙ ap (λ (r : Reply). r .number) is ∙ sym (with-enough (x .number) 9)
+    told-number n e = e ∙ ap (λ (r : Reply). r .number) is ∙ sym (with-enough (x .number) ROOM)
 
     pub told-places : (now : List ℕ) → now ≡ numbers told ++ drop 5 places → now ≡ placesTold places x
     unfolding placesTold

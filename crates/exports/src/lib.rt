@@ -7,8 +7,12 @@ ghost use Rattle.meaning.specs.Doors.{stepReply, stepSpace, outlookReply, outlo
 ghost use Rattle.meaning.specs.Desk.{deskOutput};
 ghost use Rattle.meaning.specs.Clerk.{whyOutput, cardOutput, outlookOutput, checkOutput, blankOutput};
 ghost use Rattle.reply.specs.Answers.{asReply};
+ghost use Rattle.desk_rooms.specs.Rooms.{deskRoom, whyRoom, cardRoom, namedRoom, checkRoom};
 ghost use Rattle.exports.specs.Exports.{numbers, withPlaces, numberTold, placesTold, withRoom};
 use reply::Reply;
+
+// What is returned where there are too few places.
+const ROOM: u64 = reply::ROOM as u64;
 
 // Puts the numbers of a reply into the first five places, and tells the first.
 fn tell(told: Reply, reply: &mut [u64]) -> u64
@@ -34,12 +38,15 @@ pub extern "C" fn reambodkin_step<'a>(
     out: &mut [u8],
     reply: &mut [u64],
 ) -> u64
-    ensures answer { λ r. ⌜ r ≡ numberTold (now (reply .entry)) (asReply (stepReply (now (sheet .entry)) (now (card .entry)) (now (event .entry)) (length (now (out .entry))))) ⌝ }
-    ensures places { λ r. ⌜ now (reply .exit) ≡ placesTold (now (reply .entry)) (asReply (stepReply (now (sheet .entry)) (now (card .entry)) (now (event .entry)) (length (now (out .entry))))) ⌝ }
-    ensures space { λ r. ⌜ now (out .exit) ≡ withPlaces (now (reply .entry)) (stepSpace (now (sheet .entry)) (now (card .entry)) (now (event .entry)) (now (out .entry))) (now (out .entry)) ⌝ }
+    ensures answer { λ r. ⌜ r ≡ numberTold (now (reply .entry)) (asReply
+        (stepReply (now (sheet .entry)) (now (card .entry)) (now (event .entry)) (length (now (out .entry))))) ⌝ }
+    ensures places { λ r. ⌜ now (reply .exit)
+        ≡ placesTold (now (reply .entry)) (asReply (stepReply (now (sheet .entry)) (now (card .entry)) (now (event .entry)) (length (now (out .entry))))) ⌝ }
+    ensures space { λ r. ⌜ now (out .exit)
+        ≡ withPlaces (now (reply .entry)) (stepSpace (now (sheet .entry)) (now (card .entry)) (now (event .entry)) (now (out .entry))) (now (out .entry)) ⌝ }
 {
     if reply.len() < 5 {
-        return 9;
+        return ROOM;
     }
     let told = reambodkin::step(sheet, card, event, out);
     tell(told, reply)
@@ -54,12 +61,15 @@ pub extern "C" fn reambodkin_outlook(
     out: &mut [u32],
     reply: &mut [u64],
 ) -> u64
-    ensures answer { λ r. ⌜ r ≡ numberTold (now (reply .entry)) (asReply (outlookReply (now (sheet .entry)) (now (card .entry)) (now (event .entry)) (length (now (out .entry))))) ⌝ }
-    ensures places { λ r. ⌜ now (reply .exit) ≡ placesTold (now (reply .entry)) (asReply (outlookReply (now (sheet .entry)) (now (card .entry)) (now (event .entry)) (length (now (out .entry))))) ⌝ }
-    ensures space { λ r. ⌜ now (out .exit) ≡ withPlaces (now (reply .entry)) (outlookSpace (now (sheet .entry)) (now (card .entry)) (now (event .entry)) (now (out .entry))) (now (out .entry)) ⌝ }
+    ensures answer { λ r. ⌜ r ≡ numberTold (now (reply .entry)) (asReply
+        (outlookReply (now (sheet .entry)) (now (card .entry)) (now (event .entry)) (length (now (out .entry))))) ⌝ }
+    ensures places { λ r. ⌜ now (reply .exit)
+        ≡ placesTold (now (reply .entry)) (asReply (outlookReply (now (sheet .entry)) (now (card .entry)) (now (event .entry)) (length (now (out .entry))))) ⌝ }
+    ensures space { λ r. ⌜ now (out .exit)
+        ≡ withPlaces (now (reply .entry)) (outlookSpace (now (sheet .entry)) (now (card .entry)) (now (event .entry)) (now (out .entry))) (now (out .entry)) ⌝ }
 {
     if reply.len() < 5 {
-        return 9;
+        return ROOM;
     }
     let told = reambodkin::outlook(sheet, card, event, out);
     tell(told, reply)
@@ -74,85 +84,101 @@ pub extern "C" fn reambodkin_why(
     out: &mut [u32],
     reply: &mut [u64],
 ) -> u64
-    ensures answer { λ r. ⌜ r ≡ numberTold (now (reply .entry)) (asReply (whyReply (now (sheet .entry)) (now (card .entry)) (now (event .entry)) (length (now (out .entry))))) ⌝ }
-    ensures places { λ r. ⌜ now (reply .exit) ≡ placesTold (now (reply .entry)) (asReply (whyReply (now (sheet .entry)) (now (card .entry)) (now (event .entry)) (length (now (out .entry))))) ⌝ }
-    ensures space { λ r. ⌜ now (out .exit) ≡ withPlaces (now (reply .entry)) (whySpace (now (sheet .entry)) (now (card .entry)) (now (event .entry)) (now (out .entry))) (now (out .entry)) ⌝ }
+    ensures answer { λ r. ⌜ r ≡ numberTold (now (reply .entry)) (asReply
+        (whyReply (now (sheet .entry)) (now (card .entry)) (now (event .entry)) (length (now (out .entry))))) ⌝ }
+    ensures places { λ r. ⌜ now (reply .exit)
+        ≡ placesTold (now (reply .entry)) (asReply (whyReply (now (sheet .entry)) (now (card .entry)) (now (event .entry)) (length (now (out .entry))))) ⌝ }
+    ensures space { λ r. ⌜ now (out .exit)
+        ≡ withPlaces (now (reply .entry)) (whySpace (now (sheet .entry)) (now (card .entry)) (now (event .entry)) (now (out .entry))) (now (out .entry)) ⌝ }
 {
     if reply.len() < 5 {
-        return 9;
+        return ROOM;
     }
     let told = reambodkin::why(sheet, card, event, out);
     tell(told, reply)
 }
 
-// What the desk program prints for its input, at the start of `out`, and how long it is. Where `out` has fewer than 81,920 bytes nothing is touched and 0 is returned.
+// What the desk program prints for its input, at the start of `out`, and how long it is. Where `out` has fewer than 81,920 bytes nothing is touched and 0 is
+// returned.
 #[no_mangle]
 pub extern "C" fn reambodkin_desk(input: &[u8], out: &mut [u8]) -> usize
-    ensures answer { λ r. ⌜ r ≡ withRoom 81920 (now (out .entry)) (length (deskOutput (now (input .entry)))) 0 ⌝ }
-    ensures space { λ r. ⌜ now (out .exit) ≡ withRoom 81920 (now (out .entry)) (deskOutput (now (input .entry)) ++ drop (length (deskOutput (now (input .entry)))) (now (out .entry))) (now (out .entry)) ⌝ }
+    ensures answer { λ r. ⌜ r ≡ withRoom deskRoom (now (out .entry)) (length (deskOutput (now (input .entry)))) 0 ⌝ }
+    ensures space { λ r. ⌜ now (out .exit)
+        ≡ withRoom deskRoom (now (out .entry)) (deskOutput (now (input .entry)) ++ drop (length (deskOutput (now (input .entry)))) (now (out .entry)))
+        (now (out .entry)) ⌝ }
 {
-    if out.len() < 81920 {
+    if out.len() < desk_rooms::DESK {
         return 0;
     }
-    output::desk_output(input, out)
+    desk_output::desk_output(input, out)
 }
 
 // What the clerk's program prints with the word `why`, likewise; here fewer than 49,152 bytes are too few.
 #[no_mangle]
 pub extern "C" fn reambodkin_clerk_why(input: &[u8], out: &mut [u8]) -> usize
-    ensures answer { λ r. ⌜ r ≡ withRoom 49152 (now (out .entry)) (length (whyOutput (now (input .entry)))) 0 ⌝ }
-    ensures space { λ r. ⌜ now (out .exit) ≡ withRoom 49152 (now (out .entry)) (whyOutput (now (input .entry)) ++ drop (length (whyOutput (now (input .entry)))) (now (out .entry))) (now (out .entry)) ⌝ }
+    ensures answer { λ r. ⌜ r ≡ withRoom whyRoom (now (out .entry)) (length (whyOutput (now (input .entry)))) 0 ⌝ }
+    ensures space { λ r. ⌜ now (out .exit)
+        ≡ withRoom whyRoom (now (out .entry)) (whyOutput (now (input .entry)) ++ drop (length (whyOutput (now (input .entry)))) (now (out .entry)))
+        (now (out .entry)) ⌝ }
 {
-    if out.len() < 49152 {
+    if out.len() < desk_rooms::WHY {
         return 0;
     }
-    readout::why_output(input, out)
+    clerk_why::why_output(input, out)
 }
 
 // The same with the word `card`; here 1,024 bytes are enough.
 #[no_mangle]
 pub extern "C" fn reambodkin_clerk_card(input: &[u8], out: &mut [u8]) -> usize
-    ensures answer { λ r. ⌜ r ≡ withRoom 1024 (now (out .entry)) (length (cardOutput (now (input .entry)))) 0 ⌝ }
-    ensures space { λ r. ⌜ now (out .exit) ≡ withRoom 1024 (now (out .entry)) (cardOutput (now (input .entry)) ++ drop (length (cardOutput (now (input .entry)))) (now (out .entry))) (now (out .entry)) ⌝ }
+    ensures answer { λ r. ⌜ r ≡ withRoom cardRoom (now (out .entry)) (length (cardOutput (now (input .entry)))) 0 ⌝ }
+    ensures space { λ r. ⌜ now (out .exit)
+        ≡ withRoom cardRoom (now (out .entry)) (cardOutput (now (input .entry)) ++ drop (length (cardOutput (now (input .entry)))) (now (out .entry)))
+        (now (out .entry)) ⌝ }
 {
-    if out.len() < 1024 {
+    if out.len() < desk_rooms::CARD {
         return 0;
     }
-    cardout::card_output(input, out)
+    clerk_card::card_output(input, out)
 }
 
 // With the word `outlook`; here fewer than 1,900,544 bytes are too few.
 #[no_mangle]
 pub extern "C" fn reambodkin_clerk_outlook(input: &[u8], out: &mut [u8]) -> usize
-    ensures answer { λ r. ⌜ r ≡ withRoom 1900544 (now (out .entry)) (length (outlookOutput (now (input .entry)))) 0 ⌝ }
-    ensures space { λ r. ⌜ now (out .exit) ≡ withRoom 1900544 (now (out .entry)) (outlookOutput (now (input .entry)) ++ drop (length (outlookOutput (now (input .entry)))) (now (out .entry))) (now (out .entry)) ⌝ }
+    ensures answer { λ r. ⌜ r ≡ withRoom namedRoom (now (out .entry)) (length (outlookOutput (now (input .entry)))) 0 ⌝ }
+    ensures space { λ r. ⌜ now (out .exit)
+        ≡ withRoom namedRoom (now (out .entry)) (outlookOutput (now (input .entry)) ++ drop (length (outlookOutput (now (input .entry)))) (now (out .entry)))
+        (now (out .entry)) ⌝ }
 {
-    if out.len() < 1900544 {
+    if out.len() < desk_rooms::NAMED {
         return 0;
     }
-    lookout::outlook_output(input, out)
+    clerk_outlook::outlook_output(input, out)
 }
 
 // With the word `check`, for a sheet alone; here 8,192 bytes are enough.
 #[no_mangle]
 pub extern "C" fn reambodkin_clerk_check(input: &[u8], out: &mut [u8]) -> usize
-    ensures answer { λ r. ⌜ r ≡ withRoom 8192 (now (out .entry)) (length (checkOutput (now (input .entry)))) 0 ⌝ }
-    ensures space { λ r. ⌜ now (out .exit) ≡ withRoom 8192 (now (out .entry)) (checkOutput (now (input .entry)) ++ drop (length (checkOutput (now (input .entry)))) (now (out .entry))) (now (out .entry)) ⌝ }
+    ensures answer { λ r. ⌜ r ≡ withRoom checkRoom (now (out .entry)) (length (checkOutput (now (input .entry)))) 0 ⌝ }
+    ensures space { λ r. ⌜ now (out .exit)
+        ≡ withRoom checkRoom (now (out .entry)) (checkOutput (now (input .entry)) ++ drop (length (checkOutput (now (input .entry)))) (now (out .entry)))
+        (now (out .entry)) ⌝ }
 {
-    if out.len() < 8192 {
+    if out.len() < desk_rooms::CHECK {
         return 0;
     }
-    checkup::check_output(input, out)
+    clerk_check::check_output(input, out)
 }
 
 // With the word `blank`, for a sheet alone; here 1,024 bytes are enough.
 #[no_mangle]
 pub extern "C" fn reambodkin_clerk_blank(input: &[u8], out: &mut [u8]) -> usize
-    ensures answer { λ r. ⌜ r ≡ withRoom 1024 (now (out .entry)) (length (blankOutput (now (input .entry)))) 0 ⌝ }
-    ensures space { λ r. ⌜ now (out .exit) ≡ withRoom 1024 (now (out .entry)) (blankOutput (now (input .entry)) ++ drop (length (blankOutput (now (input .entry)))) (now (out .entry))) (now (out .entry)) ⌝ }
+    ensures answer { λ r. ⌜ r ≡ withRoom cardRoom (now (out .entry)) (length (blankOutput (now (input .entry)))) 0 ⌝ }
+    ensures space { λ r. ⌜ now (out .exit)
+        ≡ withRoom cardRoom (now (out .entry)) (blankOutput (now (input .entry)) ++ drop (length (blankOutput (now (input .entry)))) (now (out .entry)))
+        (now (out .entry)) ⌝ }
 {
-    if out.len() < 1024 {
+    if out.len() < desk_rooms::CARD {
         return 0;
     }
-    checkup::blank_output(input, out)
+    clerk_check::blank_output(input, out)
 }

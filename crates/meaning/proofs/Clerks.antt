@@ -34,7 +34,12 @@ rows =
     -- the closing of a child, which no rule line gives: the child's `stage=` line
     ∷ record { word = check; input = family (text "rule=-p on -c\nend=1\n"); prints = text "refused=7 1 0\ncircle=-p -c 4\ncircle=-c -p 5\n" }
     -- nodes that wait for the circle and are not on it: +a is the lowest left, and the way back ends among +b and -b
-    ∷ record { word = check; input = pair (text "rule=+a on +b\nrule=+b on -b\nrule=-b on +b\nend=3\n"); prints = text "refused=7 1 0\ncircle=+b -b 8\ncircle=-b +b 7\n" }
+    ∷ record {
+      word = check;
+      input = pair (text "rule=+a on +b\nrule=+b on -b\nrule=-b on +b\nend=3\n");
+      prints = text
+          "refused=7 1 0\ncircle=+b -b 8\ncircle=-b +b 7\n";
+    }
     -- two rule lines that give an edge: the first
     ∷ record { word = check; input = pair (text "rule=+a on e\nrule=+a if a and b\nrule=+a on +a\nend=3\n"); prints = text "refused=7 1 0\ncircle=+a +a 7\n" }
     -- other refusals have no circle
@@ -46,13 +51,33 @@ rows =
     ∷ record { word = blank; input = text "model=m\nend=0\n"; prints = text "case=m\nend=0\n" }
     ∷ record { word = blank; input = sheetWith (text "rule=+pack if not pack"); prints = text "refused=7 1 0\n" }
     -- the desk's card
-    ∷ record { word = card; input = P ++ Q ++ text "looked income=900\n"; prints = cardOf (text "900") (text "3") (text "review=yes\npack=yes\nfit=yes\nunfit=no\n") }
+    ∷ record {
+      word = card;
+      input = P ++ Q ++ text "looked income=900\n";
+      prints = cardOf (text "900") (text "3")
+          (text "review=yes\npack=yes\nfit=yes\nunfit=no\n");
+    }
     ∷ record { word = card; input = P ++ Q ++ text "looked income=ERR\n"; prints = text "refused=4 3 1\n" }
     -- "On P, Q and `looked income=?`"
-    ∷ record { word = outlook; input = P ++ Q ++ text "looked income=?\n"; prints = text "review=always\npack=open\nfit=open\nunfit=open\noutlook=review pack fit\noutlook=review unfit\n" }
-    ∷ record { word = outlook; input = P ++ Q ++ text "looked income=900\n"; prints = text "review=always\npack=always\nfit=always\nunfit=never\noutlook=review pack fit\n" }
+    ∷ record {
+      word = outlook;
+      input = P ++ Q ++ text "looked income=?\n";
+      prints = text
+          "review=always\npack=open\nfit=open\nunfit=open\noutlook=review pack fit\noutlook=review unfit\n";
+    }
+    ∷ record {
+      word = outlook;
+      input = P ++ Q ++ text "looked income=900\n";
+      prints = text
+          "review=always\npack=always\nfit=always\nunfit=never\noutlook=review pack fit\n";
+    }
     -- a pattern in which no status is yes
-    ∷ record { word = outlook; input = P ++ cardOf (text "?") (text "3") allNo ++ text "asked people=?\n"; prints = text "review=open\npack=never\nfit=never\nunfit=never\noutlook=\noutlook=review\n" }
+    ∷ record {
+      word = outlook;
+      input = P ++ cardOf (text "?") (text "3") allNo ++ text "asked people=?\n";
+      prints = text
+          "review=open\npack=never\nfit=never\nunfit=never\noutlook=\noutlook=review\n";
+    }
     ∷ record { word = outlook; input = P ++ Q ++ text "looked\n"; prints = text "refused=2 3 1\n" }
     ∷ []
 

@@ -50,13 +50,32 @@ asked =
     ∷ record { sheet = B; card = cardC (text "no"); event = text "e x=1\n"; room = 159; answer = taken (81 ∷ 10091 ∷ []) }
     ∷ record { sheet = C; card = cardC (text "no"); event = text "e x=1\n"; room = 159; answer = taken (81 ∷ 10052 ∷ []) }
     -- 1.4: trigger, then home, then condition
-    ∷ record { sheet = P; card = cardOf (text "?") (text "3") allNo; event = text "looked income=901\n"; room = 159; answer = taken (113 ∷ 10155 ∷ 20134 ∷ 30144 ∷ []) }
+    ∷ record {
+      sheet = P;
+      card = cardOf (text "?") (text "3") allNo;
+      event = text "looked income=901\n";
+      room = 159;
+      answer = taken
+          (113 ∷ 10155 ∷ 20134 ∷ 30144 ∷ []);
+    }
     ∷ record { sheet = P; card = Q; event = text "withdrawn\n"; room = 159; answer = taken (121 ∷ 10155 ∷ 20133 ∷ 30143 ∷ []) }
     -- 1.5: a closing that did not come about is not told
     ∷ record { sheet = C; card = cardC (text "yes"); event = text "e x=0\n"; room = 159; answer = taken (85 ∷ 10093 ∷ []) }
     -- 1.6: the home is read after; `+fit` where fit is yes already
-    ∷ record { sheet = sheetLines (text "rule=+fit on withdrawn") (text "rule=+pack if fit and review"); card = Q; event = text "withdrawn\n"; room = 159; answer = taken (121 ∷ 10155 ∷ 20134 ∷ 30143 ∷ []) }
-    ∷ record { sheet = sheetWith (text "rule=+pack on +fit"); card = cardOf (text "?") (text "3") (text "review=yes\npack=no\nfit=yes\nunfit=no\n"); event = text "looked income=5\n"; room = 159; answer = taken (123 ∷ 10153 ∷ 30145 ∷ []) }
+    ∷ record {
+      sheet = sheetLines (text "rule=+fit on withdrawn") (text "rule=+pack if fit and review");
+      card = Q;
+      event = text "withdrawn\n";
+      room = 159;
+      answer = taken (121 ∷ 10155 ∷ 20134 ∷ 30143 ∷ []);
+    }
+    ∷ record {
+      sheet = sheetWith (text "rule=+pack on +fit");
+      card = cardOf (text "?") (text "3") (text "review=yes\npack=no\nfit=yes\nunfit=no\n");
+      event = text "looked income=5\n";
+      room = 159;
+      answer = taken (123 ∷ 10153 ∷ 30145 ∷ []);
+    }
     -- 1.7: ROOM exactly when there are more reasons than places, behind the refusals of the papers
     ∷ record { sheet = P; card = Q; event = text "looked income=900\n"; room = 4; answer = taken (123 ∷ 10151 ∷ 20131 ∷ 30145 ∷ []) }
     ∷ record { sheet = P; card = Q; event = text "looked income=900\n"; room = 3; answer = refused 9 0 0 }
@@ -77,17 +96,23 @@ unfoldable pub read : List Read
 read =
     record {
       input = P ++ Q ++ text "looked income=900\n";
-      prints = text "why=-review line 12 trigger not met: on withdrawn\nwhy=+pack line 15 held: if fit and review\nwhy=+fit line 13 held: on looked if income<=900\nwhy=+unfit line 14 condition false: on looked if income>900\n";
+      prints =
+          text "why=-review line 12 trigger not met: on withdrawn\nwhy=+pack line 15 held: if fit and review\n"
+          ++ text "why=+fit line 13 held: on looked if income<=900\nwhy=+unfit line 14 condition false: on looked if income>900\n";
     }
     ∷ record {
       input = P ++ Q ++ text "looked income=?\n";
-      prints = text "why=-review line 12 trigger not met: on withdrawn\nwhy=+pack line 15 condition false: if fit and review\nwhy=+fit line 13 condition unknown: on looked if income<=900\nwhy=+unfit line 14 condition unknown: on looked if income>900\n";
+      prints =
+          text "why=-review line 12 trigger not met: on withdrawn\nwhy=+pack line 15 condition false: if fit and review\n"
+          ++ text "why=+fit line 13 condition unknown: on looked if income<=900\nwhy=+unfit line 14 condition unknown: on looked if income>900\n";
     }
     -- the parent by its name; a home that is not open
     ∷ record { input = C ++ cardC (text "no") ++ text "e x=1\n"; prints = text "why=-p line 8 held: on e if x>0\nwhy=-c parent p closed\n" }
     ∷ record {
       input = P ++ cardOf (text "?") (text "3") allNo ++ text "looked income=901\n";
-      prints = text "why=+review line 11 trigger not met: on asked if people>0\nwhy=+pack line 15 condition false: if fit and review\nwhy=+fit line 13 home not open: on looked if income<=900\nwhy=+unfit line 14 home not open: on looked if income>900\n";
+      prints =
+          text "why=+review line 11 trigger not met: on asked if people>0\nwhy=+pack line 15 condition false: if fit and review\n"
+          ++ text "why=+fit line 13 home not open: on looked if income<=900\nwhy=+unfit line 14 home not open: on looked if income>900\n";
     }
     -- nothing where there is no reason, and a refusal as at the desk
     ∷ record { input = A ++ cardA (text "yes") ++ text "e x=9\n"; prints = [] }

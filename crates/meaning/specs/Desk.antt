@@ -17,17 +17,20 @@ unfoldable pub lineLength : List ℕ → ℕ
 lineLength [] = 0
 lineLength (x ∷ s) = elim (eqb x 10) [ true ↦ 1 | false ↦ suc (lineLength s) ]
 
--- "up to and with the first line that begins `end=`. .. Where such a line is missing, that paper takes all that is left"; `starts`: a line starts here
+-- "up to and with the first line that begins `end=`"; "Where such a line is missing, that paper takes all that is left and the later ones are empty";
+-- `starts`: a line starts here
 unfoldable pub paperLength : Bool → List ℕ → ℕ
 paperLength starts [] = 0
 paperLength starts (x ∷ s) =
     elim (starts && begins (text "end=") (x ∷ s)) [ true ↦ lineLength (x ∷ s) | false ↦ suc (paperLength (eqb x 10) s) ]
 
--- the first paper of the input
+-- the first paper of the input: "It reads the sheet up to and with the first line that begins `end=`, the card up to and with the next such line, and takes
+-- the rest as the event"
 unfoldable pub firstPaper : List ℕ → List ℕ
 firstPaper s = take (paperLength true s) s
 
--- what is behind it
+-- what is behind it: "It reads the sheet up to and with the first line that begins `end=`, the card up to and with the next such line, and takes the rest as
+-- the event"
 unfoldable pub afterPaper : List ℕ → List ℕ
 afterPaper s = drop (paperLength true s) s
 
@@ -52,15 +55,19 @@ unfoldable pub outlookLines : Answer (List ℕ) → List ℕ
 outlookLines (taken ps) = joined (λ p. line (text "outlook") (decimal p)) ps
 outlookLines (refused n p l) = line (text "outlook") (text "refused")
 
--- "or the next card, a line `start=NAME` for each task, and" the outlook
+-- for the papers read: "It prints `refused=NUMBER PAPER LINE`, or the next card, a line `start=NAME` for each task, and a line `outlook=PATTERN` for each
+-- pattern, or `outlook=refused` if MANY"
 unfoldable pub printed : Answer Case → List ℕ
 printed x = orRefusal (λ c. next c .card ++ startLines (c .sheet .heads .stages) (next c .tasks) ++ outlookLines (outlook c)) x
 
--- "It reads the sheet .., the card .., and takes the rest as the event. .. Over 34,304 bytes: LONG, paper 0, line 0"; what is printed for the papers is the program's
+-- "It reads the sheet up to and with the first line that begins `end=`, the card up to and with the next such line, and takes the rest as the event"; "Over
+-- 34,304 bytes: LONG, paper 0, line 0"; what is printed for the papers is the program's
 abbrev pub onPapers : (List ℕ → List ℕ → List ℕ → List ℕ) → List ℕ → List ℕ
 onPapers print input =
     let rest = afterPaper input in
     cond (ltb deskBytes (length input)) (refusalText LONG 0 0) (print (firstPaper input) (firstPaper rest) (afterPaper rest))
 
+-- for the whole input: "It prints `refused=NUMBER PAPER LINE`, or the next card, a line `start=NAME` for each task, and a line `outlook=PATTERN` for each
+-- pattern, or `outlook=refused` if MANY"
 unfoldable pub deskOutput : List ℕ → List ℕ
 deskOutput input = onPapers (λ sheet card event. printed (readCase sheet card event)) input

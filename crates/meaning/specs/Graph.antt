@@ -72,6 +72,6 @@ unfoldable pub orderOf : Into → ℕ → List ℕ → Option (List ℕ)
 orderOf into zero left = some []
 orderOf into (suc m) left = first (firstFree into left left) (λ k. orderOf into m (without k left))
 
--- a testing order of n nodes; none where the graph has a cycle
+-- "A testing order names every node once, each edge leading from earlier to later": one of n nodes; none where the graph has a cycle
 unfoldable pub orderFor : ℕ → Into → Option (List ℕ)
 orderFor n into = orderOf into n (from 0 n)

@@ -1,17 +1,19 @@
 -- Every limit of document 01, each in one place.
-use Prim.Native.Nat.{ℕ}
+use Prim.Native.Nat.{ℕ, _+_}
 
--- "sheet over 32,768 bytes, card over 1,024, event over 512"
+-- "sheet over 32,768 bytes, card over 1,024, event over 512; line 0"
 abbrev pub sheetBytes : ℕ
 sheetBytes = 32768
 
+-- "sheet over 32,768 bytes, card over 1,024, event over 512; line 0"
 abbrev pub cardBytes : ℕ
 cardBytes = 1024
 
+-- "sheet over 32,768 bytes, card over 1,024, event over 512; line 0"
 abbrev pub eventBytes : ℕ
 eventBytes = 512
 
--- the desk program: "Over 34,304 bytes: LONG"
+-- the desk program: "Over 34,304 bytes: LONG, paper 0, line 0"
 abbrev pub deskBytes : ℕ
 deskBytes = 34304
 
@@ -35,7 +37,7 @@ statusLimit = 32
 abbrev pub ruleLimit : ℕ
 ruleLimit = 128
 
--- "All conditions of a sheet together have at most 512 leaves"
+-- "All conditions of a sheet together have at most 512 leaves (status mentions and comparisons)"
 abbrev pub leafLimit : ℕ
 leafLimit = 512
 
@@ -46,3 +48,11 @@ nestLimit = 8
 -- "MANY is given exactly when the product of the parts over the `?` fields exceeds 4,096"
 abbrev pub partLimit : ℕ
 partLimit = 4096
+
+-- numbers run "from -1000000000 to 1000000000" and are kept as their place on that scale: the place of 0, which is also the greatest amount, and the place of
+-- the highest
+abbrev pub middle : ℕ
+middle = 1000000000
+
+abbrev pub highest : ℕ
+highest = middle + middle

@@ -30,7 +30,7 @@ nameByte x = letter x || digit x
 abbrev pub reserved : List Name
 reserved = text "on" ∷ text "if" ∷ text "or" ∷ text "and" ∷ text "not" ∷ text "end" ∷ []
 
--- "1 to 12 lower-case letters and digits, a letter first, and none of" the reserved words
+-- "A name is 1 to 12 lower-case letters and digits, a letter first, and none of on, if, or, and, not, end"
 unfoldable pub goodName : Name → Bool
 goodName [] = false
 goodName (x ∷ w) = letter x && eqb (run nameByte (x ∷ w)) (length (x ∷ w)) && leb (length (x ∷ w)) nameBytes && not (among (x ∷ w) reserved)
@@ -43,7 +43,7 @@ name = do
   demand NAME (goodName w)
   give w
 
--- a name that is not already used
+-- a name that is not already used: "Names of fields, events, stages and miles all differ; the model's name may equal one of them"
 unfoldable pub newName : List Name → Reader Name
 newName used = do
   w ← name

@@ -7,25 +7,25 @@ use mathlib.Core.Logic.{_↔_}
 use lib.ListN.{length, getD}
 use lib.Dec.{leb, ltb, eqb}
 use Rattle.meaning.specs.Text.{In, any, keep, joined}
-use Rattle.meaning.specs.Limits.{partLimit}
-use Rattle.meaning.specs.Number.{Value, missing, number-at, limit}
+use Rattle.meaning.specs.Limits.{partLimit, highest}
+use Rattle.meaning.specs.Number.{Value, missing, number-at}
 use Rattle.meaning.specs.Condition.{Comparison, Leaf, answers}
 use Rattle.meaning.specs.Tests.{Test, leavesIn}
 use Rattle.meaning.specs.Step.{Moment, Meets, leadsTo, pattern}
 
 -- WHAT IS MEANT
 
--- "A filling gives every field that is `?` after the event a number in the range"
+-- "A filling gives every field that is `?` after the event a number in the range; statuses before stay"
 pub record Fills (given filled : List Value) : Type 0 where
   pub long : length filled ≡ length given
   pub kept : (f v : ℕ) → getD given f missing ≡ number-at v → getD filled f missing ≡ number-at v
-  pub ranged : (f : ℕ) → f < length given → getD given f missing ≡ missing → (v : ℕ) × (v ≤ limit) × (getD filled f missing ≡ number-at v)
+  pub ranged : (f : ℕ) → f < length given → getD given f missing ≡ missing → (v : ℕ) × (v ≤ highest) × (getD filled f missing ≡ number-at v)
 
--- the moment with other values; "statuses before stay"
+-- the moment with other values: "statuses before stay"
 unfoldable pub filledWith : Moment → List Value → Moment
 filledWith m vs = record { event = m .event; values = vs; before = m .before }
 
--- some filling has the next pattern p
+-- some filling has the next pattern p: "Each filling has one next pattern: bit i of a 32-bit number is status i, stages first, then miles, from bit 0"
 pub record Gives (ts : List Test) (m : Moment) (p : ℕ) : Type 0 where
   pub filled : List Value
   pub fills : Fills (m .values) filled
@@ -47,11 +47,12 @@ compares f (Leaf.compare c) = cond (eqb (c .field) f) (c ∷ []) []
 unfoldable pub comparisons : List Test → ℕ → List Comparison
 comparisons ts f = joined (compares f) (leavesIn ts)
 
--- a value "at least -999999999 and at most 1000000000, where" the comparison "answers differently at v-1 and v"
+-- a value "at least -999999999 and at most 1000000000", where the comparison "answers differently at v-1 and v"
 unfoldable pub cutsAt : Comparison → ℕ → Bool
-cutsAt c v = ltb 0 v && leb v limit && not (Bool·beq (answers (c .operator) (c .number) (v - 1)) (answers (c .operator) (c .number) v))
+cutsAt c v = ltb 0 v && leb v highest && not (Bool·beq (answers (c .operator) (c .number) (v - 1)) (answers (c .operator) (c .number) v))
 
--- "A cut of a field is a value v .. where some comparison of that field on the sheet" does so
+-- "A cut of a field is a value v, at least -999999999 and at most 1000000000, where some comparison of that field on the sheet answers differently at v-1 and
+-- v"
 unfoldable pub isCut : List Test → ℕ → ℕ → Bool
 isCut ts f v = any (λ c. cutsAt c v) (comparisons ts f)
 
@@ -67,7 +68,8 @@ unfoldable pub ascending : List ℕ → List ℕ
 ascending [] = []
 ascending (x ∷ xs) = insert x (ascending xs)
 
--- the cuts of a field: a comparison can cut only at its number and at the next
+-- "A cut of a field is a value v, at least -999999999 and at most 1000000000, where some comparison of that field on the sheet answers differently at v-1 and
+-- v": a comparison can cut only at its number and at the next
 unfoldable pub cuts : List Test → ℕ → List ℕ
 cuts ts f = ascending (joined (λ c. keep (cutsAt c) (c .number ∷ suc (c .number) ∷ [])) (comparisons ts f))
 
@@ -77,7 +79,7 @@ parts ts f [] = 1
 parts ts f (missing ∷ vs) = suc (length (cuts ts f)) * parts ts (suc f) vs
 parts ts f (number-at v ∷ vs) = parts ts (suc f) vs
 
--- "MANY is given exactly when the product .. exceeds 4,096"
+-- "MANY is given exactly when the product of the parts over the `?` fields exceeds 4,096"
 unfoldable pub many : List Test → Moment → Bool
 many ts m = ltb partLimit (parts ts 0 (m .values))
 
@@ -92,6 +94,6 @@ unfoldable pub choices : List (List Value) → List (List Value)
 choices [] = [] ∷ []
 choices (r ∷ rs) = joined (λ v. map (λ w. v ∷ w) (choices rs)) r
 
--- the patterns, each from a run of the testing order o
+-- "The list holds each pattern that some filling gives, once, ascending": each from a run of the testing order o
 unfoldable pub patterns : List Test → List ℕ → Moment → List ℕ
 patterns ts o m = ascending (map (λ vs. pattern (leadsTo ts (filledWith m vs) o)) (choices (tried ts 0 (m .values))))

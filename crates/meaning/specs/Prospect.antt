@@ -24,7 +24,7 @@ Means ts m x always = (p : ℕ) → Gives ts m p → yesIn x p ≡ true
 Means ts m x never = (p : ℕ) → Gives ts m p → yesIn x p ≡ false
 Means ts m x still-open = ((p : ℕ) × Gives ts m p × (yesIn x p ≡ true)) × ((p : ℕ) × Gives ts m p × (yesIn x p ≡ false))
 
--- HOW IT IS COMPUTED, from a list of patterns
+-- HOW IT IS COMPUTED, from a list of patterns: "yes in every pattern, in none, in some"
 unfoldable pub prospect : List ℕ → ℕ → Prospect
 prospect ps x = cond (any (λ p. not (yesIn x p)) ps) (cond (any (yesIn x) ps) still-open never) always
 

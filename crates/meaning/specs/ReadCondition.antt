@@ -24,7 +24,7 @@ operator = do
       ∷ record { spelled = text ">"; means = above }
       ∷ [])
 
--- items joined by ` and `, behind l leaves. Each has a leaf, so m above the leaves that are left is never used up
+-- "An and-list is one or more items joined by ` and `", behind l leaves. Each has a leaf, so m above the leaves that are left is never used up
 unfoldable pub readAnd : (ℕ → Reader Item) → ℕ → ℕ → Reader And
 readAnd item zero l = refuse COND
 readAnd item (suc m) l = do
@@ -34,7 +34,7 @@ readAnd item (suc m) l = do
       (readAnd item m (l + length (leavesI i)) >>= λ a. give (And.and i a))
       (give (And.just i))
 
--- and-lists joined by ` or `, likewise
+-- "A condition is one or more and-lists joined by ` or `", likewise
 unfoldable pub readCond : (ℕ → Reader Item) → ℕ → ℕ → Reader Cond
 readCond item zero l = refuse COND
 readCond item (suc m) l = do
@@ -44,7 +44,8 @@ readCond item (suc m) l = do
       (readCond item m (l + length (leavesA a)) >>= λ c. give (Cond.or a c))
       (give (Cond.only a))
 
--- "a status, a field with one of" the operators "and a number without spaces": the name is a status, a field or neither
+-- "a status, a field with one of `<` `<=` `=` `>=` `>` and a number without spaces": the name is a status, a field or neither. FULL is "told as soon as its
+-- key is read, for a leaf its name (a wrong name gives 3 first)"
 abbrev pub named : ℕ → Option ℕ → Option ℕ → Reader Leaf
 named l (some x) f = do
   demand FULL (ltb l leafLimit)
@@ -58,13 +59,14 @@ named l none none = refuse NAME
 
 -- the names of statuses and fields known on the sheet
 module _ (statuses fields : List Name) where
-  -- a name is read; behind l leaves it may be one too many: "told as soon as .. its name (a wrong name gives 3 first)"
+  -- a name is read, "and an empty one gives 3"; behind l leaves it may be one too many
   unfoldable pub readLeaf : ℕ → Reader Leaf
   readLeaf l = do
     w ← name
     named l (find w statuses) (find w fields)
 
-  -- "where an item is due and neither `not ` nor `(` stands, a name is read"; what `not ` and `(` begin is handed in
+  -- "An item is `not ` and an item, a status, a field with one of `<` `<=` `=` `>=` `>` and a number without spaces, or a group": "where an item is due and
+  -- neither `not ` nor `(` stands, a name is read, and an empty one gives 3"; what `not ` and `(` begin is handed in
   unfoldable pub itemWith : Reader Item → Reader Item → ℕ → Reader Item
   itemWith negated grouped l = do
     notEnded
@@ -73,7 +75,8 @@ module _ (statuses fields : List Name) where
       opens ← stands (text "(")
       choose opens grouped (readLeaf l >>= λ x. give (Item.leaf x))
 
-  -- an item where d more nots and groups may stand around each other
+  -- an item where d more nots and groups may stand around each other: "Nots and groups nest at most 8 deep"; "A group in parentheses holds a whole condition
+  -- again"
   unfoldable pub readItem : ℕ → ℕ → Reader Item
   readItem zero l = itemWith (refuse COND) (refuse COND) l
   readItem (suc d) l = itemWith

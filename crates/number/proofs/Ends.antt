@@ -8,13 +8,14 @@ use borrow.Author.Tests.{ne-eqb, not-true, not-false}
 use lib.Dec.{eqb}
 use lib.ListN.{length, drop, drop-of-length-le}
 use lib.Seq.{drop-cons}
+use Rattle.meaning.specs.Refusal.{LINE}
+use Rattle.meaning.specs.Limits.{middle}
 use Rattle.meaning.specs.Text.{begins, text}
-use Rattle.meaning.specs.Reading.{paperEnd, after, demand}
+use Rattle.meaning.specs.Reading.{paperEnd, closed, after, demand}
 use Rattle.meaning.specs.Number.{number, endLine}
-use Rattle.theory.specs.Lists.{eqb-alike}
+use Rattle.theory.specs.Lists.Members.{eqb-alike}
 use Rattle.text.proofs.Callers.{begins-fits, due-here, due-off, line-end-here, line-end-off}
 use Rattle.number.specs.Answers.{asNumber, asEnd}
-use Rattle.number.specs.Ending.{closed}
 use Rattle.number.specs.declared.NumberPiece.{NumberPiece}
 use Rattle.number.specs.declared.NumberPiece.the-variants as N
 use Rattle.number.specs.declared.End.{End}
@@ -50,8 +51,8 @@ module _ (c : ℕ) (s : List ℕ) (b : Bool) (is : b ≡ begins (text "end=") s)
   line-keyless t = sym (rw (due-off (text "end=") 0 s b is (not-true b t)))
 
   module _ (t : not b ≡ false) (u : List ℕ) (p : NumberPiece) (at : u ≡ drop 4 s) (told : p ≡ asNumber (number 0 u)) where
-    keyed : endLine c 0 s ≡ after (number 0 u) (λ w k s. after (demand 2 (eqb (w .at) (1000000000 + c)) k s) (λ _. closed))
-    unfolding endLine closed
+    keyed : endLine c 0 s ≡ after (number 0 u) (λ w k s. after (demand LINE (eqb (w .at) (middle + c)) k s) (λ _. closed))
+    unfolding endLine
     keyed = rw (due-here 2 (text "end=") 0 s (λ h. omega (arith, begins-fits (text "end=") s (sym is ∙ not-false b t))) b is (not-false b t), at)
 
     pub line-refused : (k : ℕ) → p ≡ N.Refused k → D.Refused k 0 ≡ asEnd (endLine c 0 s)

@@ -9,17 +9,18 @@ use mir.Val.{Fits}
 use mir.Syntax.{w64}
 use lib.ListN.{length, drop, getD}
 use lib.Seq.{drop-cons, length-take-le}
+use Rattle.meaning.specs.Refusal.{LINE}
 use Rattle.meaning.specs.Text.{begins}
 use Rattle.meaning.specs.Reading.{notEnded, stands, after, give}
 use Rattle.meaning.specs.Number.{number, entry, number-at}
-use Rattle.theory.specs.Told.{notEnded-none}
+use Rattle.theory.specs.Reading.Told.{notEnded-none}
 use Rattle.number.specs.Answers.{asNumber, asEntry}
 use Rattle.number.specs.declared.NumberPiece.{NumberPiece}
 use Rattle.number.specs.declared.NumberPiece.the-variants as N
 use Rattle.number.specs.declared.EntryPiece.the-variants as E
 use Rattle.number.proofs.Callers.{number-wrong, number-got, number-fits, number-small}
 
-pub entry-ended : (s : List ℕ) → length s ≡ 0 → E.Refused 2 ≡ asEntry (entry 0 s)
+pub entry-ended : (s : List ℕ) → length s ≡ 0 → E.Refused LINE ≡ asEntry (entry 0 s)
 unfolding entry
 entry-ended s h = sym (rw (notEnded-none 0 s h))
 
@@ -27,7 +28,8 @@ pub entry-missing : (s : List ℕ) → (length s ≡ 0 → ⊥) → getD s 0 0 �
 unfolding entry notEnded stands begins
 entry-missing s h e = ap (λ u. asEntry (entry 0 u)) (sym (drop-cons s 0 0 (omega arith) ∙ ap (λ x. x ∷ drop 1 s) e))
 
-entry-is : (s : List ℕ) → (length s ≡ 0 → ⊥) → (getD s 0 0 ≡ 63 → ⊥) → entry 0 s ≡ after (number 0 s) (λ n. give (record { shown = n .shown; value = number-at (n .at) }))
+entry-is : (s : List ℕ) → (length s ≡ 0 → ⊥) → (getD s 0 0 ≡ 63 → ⊥)
+    → entry 0 s ≡ after (number 0 s) (λ n. give (record { shown = n .shown; value = number-at (n .at) }))
 unfolding entry notEnded stands begins
 entry-is [] h o = absurd (h refl)
 entry-is (x ∷ s) h o = rw (ne-eqb x 63 o, begins)

@@ -11,12 +11,13 @@ use borrow.Author.Tests.{eq-eqb, ne-eqb, lt-leb, le-leb, not-false, leb-true}
 use lib.Dec.{eqb, leb}
 use lib.ListN.{length, drop, getD}
 use lib.Seq.{drop-cons}
+use Rattle.meaning.specs.Limits.{middle}
 use Rattle.meaning.specs.Text.{run}
 use Rattle.meaning.specs.Name.{digit}
 use Rattle.meaning.specs.Number.{amount, inRange, digits}
-use Rattle.theory.specs.Names.{run-more, run-halt}
-use Rattle.theory.specs.Entries.{digit-bounds}
-use Rattle.theory.specs.Counts.{amount-grows}
+use Rattle.theory.specs.Papers.Names.{run-more, run-halt}
+use Rattle.theory.specs.Papers.Entries.{digit-bounds}
+use Rattle.theory.specs.Papers.Counts.{amount-grows}
 use Rattle.text.proofs.Laws.{run-at-more, run-at-stop, run-at-end}
 use Rattle.number.specs.Digits.{asDigits, digitRun, needlessZero, amountRun, digitsRun}
 use Rattle.number.specs.declared.Digits.{Digits}
@@ -29,7 +30,7 @@ digit-room x y b q e t = omega (arith, digit-bounds x (sym e ∙ not-false b t) 
 -- the loop at the cursor i, with the value v of the digits that it passed
 pub record Passed (s : List ℕ) (v i : ℕ) : Type 0 where
   pub within : i ≤ length s
-  pub small : v ≤ 1000000000
+  pub small : v ≤ middle
   pub counted : run digit s ≡ i + run digit (drop i s)
   pub same : amount 0 (digitRun s) ≡ amount v (digitRun (drop i s))
 
@@ -41,7 +42,7 @@ module _ (s : List ℕ) (v i : ℕ) (going : Passed s v i) where
   unfolding amountRun inRange amount
   passed-all h =
       let z : run digit (drop i s) ≡ 0 = omega (arith, going .counted) in
-      sym (rw (going .same, z, sym h, le-leb v 1000000000 (going .small)))
+      sym (rw (going .same, z, sym h, le-leb v middle (going .small)))
 
   pub passed-end : length s ≤ i → D.Good v i ≡ amountRun s
   passed-end h = passed-all (run-at-end digit s i (going .counted) h)
@@ -55,11 +56,12 @@ module _ (s : List ℕ) (v i : ℕ) (going : Passed s v i) where
       unfolding amount
       next = going .same ∙ rw (add-one, drop-cons s i 0, e, q, run-more digit (getD s i 0) _ (sym is ∙ not-false b t))
 
-      pub passed-over : (m : ℕ) → m < w → leb 1000000000 m ≡ true → D.Wrong ≡ amountRun s
+      pub passed-over : (m : ℕ) → m < w → leb middle m ≡ true → D.Wrong ≡ amountRun s
       unfolding amountRun inRange
-      passed-over m h k = sym (rw (lt-leb (amount 0 (digitRun s)) 1000000000 (omega (arith, leb-true 1000000000 m k, next, amount-grows (digitRun (drop (i + 1) s)) w))))
+      passed-over m h k =
+          sym (rw (lt-leb (amount 0 (digitRun s)) middle (omega (arith, leb-true middle m k, next, amount-grows (digitRun (drop (i + 1) s)) w))))
 
-      pub passed-more : w ≤ 1000000000 → (j : ℕ) → j ≡ i + 1 → Passed s w j
+      pub passed-more : w ≤ middle → (j : ℕ) → j ≡ i + 1 → Passed s w j
       passed-more h j z = rw z (record { within = omega arith; small = h; counted = run-at-more digit s i b (going .counted) more is t; same = next })
 
 -- a needless zero
@@ -80,14 +82,15 @@ judged-is [] = refl
 judged-is (x ∷ s) = first (digit x) refl s
   where
     one : digit x ≡ true → D.Good (x - 48) 1 ≡ counted (asDigits (inRange (0 * 10 + (x - 48))) 1)
-    one p = sym (rw (le-leb (0 * 10 + (x - 48)) 1000000000 (omega (arith, digit-bounds x p .1))) (ap (λ v. D.Good v 1) (omega arith)))
+    one p = sym (rw (le-leb (0 * 10 + (x - 48)) middle (omega (arith, digit-bounds x p .1))) (ap (λ v. D.Good v 1) (omega arith)))
 
     more : (a : Bool) (o : Option ℕ) (n : ℕ) → asDigits (cond a none o) (suc n) ≡ cond a D.Wrong (counted (asDigits o (suc n)))
     more true o n = refl
     more false none n = refl
     more false (some v) n = rw (ne-eqb (suc n) 0 (λ e. omega arith))
 
-    second : (y : ℕ) (t : List ℕ) (b : Bool) → digit x ≡ true → digit y ≡ b → digitsRun (x ∷ y ∷ t) ≡ cond (eqb x 48 && b) D.Wrong (counted (amountRun (x ∷ y ∷ t)))
+    second : (y : ℕ) (t : List ℕ) (b : Bool) → digit x ≡ true → digit y ≡ b
+        → digitsRun (x ∷ y ∷ t) ≡ cond (eqb x 48 && b) D.Wrong (counted (amountRun (x ∷ y ∷ t)))
     second y t true p q = rw (run-more digit x (y ∷ t) p, run-more digit y t q, and-true (eqb x 48)) (more (eqb x 48) _ _)
     second y t false p q = rw (run-more digit x (y ∷ t) p, run-halt digit y t q, and-false (eqb x 48)) (one p)
 

@@ -11,15 +11,16 @@ use mir.Val.{Fits}
 use mir.Syntax.{w64}
 use lib.ListN.{length, drop, take, getD, length-drop}
 use lib.Seq.{drop-cons}
+use Rattle.meaning.specs.Refusal.{LINE, NUMBER}
+use Rattle.meaning.specs.Limits.{middle}
 use Rattle.meaning.specs.Text.{run, begins}
 use Rattle.meaning.specs.Reading.{Got, notEnded, stands, longest}
 use Rattle.meaning.specs.Name.{digit}
 use Rattle.meaning.specs.Number.{digits, place, Written, judged, number}
-use Rattle.theory.specs.Names.{run-taken}
-use Rattle.theory.specs.Told.{run-fits, notEnded-none}
-use Rattle.theory.specs.Entries.{digits-most}
-use Rattle.text.proofs.Laws.{rest-some}
-use Rattle.text.proofs.Packs.{length-run}
+use Rattle.theory.specs.Papers.Names.{run-taken}
+use Rattle.theory.specs.Reading.Told.{run-fits, notEnded-none}
+use Rattle.theory.specs.Papers.Entries.{digits-most}
+use Rattle.text.proofs.Laws.{rest-some, length-run}
 use Rattle.number.specs.Answers.{asNumber}
 use Rattle.number.specs.Digits.{asDigits, digitRun, digitsRun}
 use Rattle.number.specs.declared.Digits.{Digits}
@@ -44,10 +45,10 @@ module _ (s : List ℕ) (d : Digits) (is : d ≡ digitsRun s) (v n : ℕ) (q : d
   good : (digits (digitRun s) ≡ some v) × (run digit s ≡ n)
   good = subst (Means s) (sym is ∙ q) (means s)
 
-  pub good-small : v ≤ 1000000000
+  pub good-small : v ≤ middle
   good-small = digits-most (digitRun s) v (run-taken digit s) (good .0)
 
-  pub good-fits : (w : ℕ) → w ≡ 1000000000 + v → Fits w64 w
+  pub good-fits : (w : ℕ) → w ≡ middle + v → Fits w64 w
   good-fits w e = omega (arith, good-small)
 
 -- what is read behind a minus, or where there is none
@@ -64,7 +65,7 @@ plus-is [] h e = absurd (h refl)
 plus-is (x ∷ s) h e = rw (ne-eqb x 45 e, begins)
 
 -- the returns
-pub piece-ended : (s : List ℕ) → length s ≡ 0 → N.Refused 2 ≡ asNumber (number 0 s)
+pub piece-ended : (s : List ℕ) → length s ≡ 0 → N.Refused LINE ≡ asNumber (number 0 s)
 unfolding number
 piece-ended s h = sym (rw (notEnded-none 0 s h))
 
@@ -73,16 +74,16 @@ module _ (s : List ℕ) (begun : length s ≡ 0 → ⊥) (d : Digits) where
     left : d ≡ digitsRun (drop 1 s)
     left = is ∙ ap digitsRun (rest-some s 1)
 
-    pub minus-refused : d ≡ D.Wrong → N.Refused 4 ≡ asNumber (number 0 s)
+    pub minus-refused : d ≡ D.Wrong → N.Refused NUMBER ≡ asNumber (number 0 s)
     unfolding place
     minus-refused q = sym (rw (minus-is s begun minus, subst (Means (drop 1 s)) (sym left ∙ q) (means (drop 1 s))))
 
     module _ (v n : ℕ) (q : d ≡ D.Good v n) where
-      pub minus-nothing : v ≡ 0 → N.Refused 4 ≡ asNumber (number 0 s)
+      pub minus-nothing : v ≡ 0 → N.Refused NUMBER ≡ asNumber (number 0 s)
       unfolding place
       minus-nothing z = sym (rw (minus-is s begun minus, good (drop 1 s) d left v n q .0, eq-eqb v 0 z))
 
-      pub minus-number : (v ≡ 0 → ⊥) → (w k : ℕ) → w ≡ 1000000000 - v → k ≡ n + 1 → N.Number w k ≡ asNumber (number 0 s)
+      pub minus-number : (v ≡ 0 → ⊥) → (w k : ℕ) → w ≡ middle - v → k ≡ n + 1 → N.Number w k ≡ asNumber (number 0 s)
       unfolding place
       minus-number z w k e f =
           let (x, y) = good (drop 1 s) d left v n q in
@@ -92,11 +93,11 @@ module _ (s : List ℕ) (begun : length s ≡ 0 → ⊥) (d : Digits) where
       minus-fits h k f = omega (arith, good (drop 1 s) d left v n q .1, run-fits digit (drop 1 s), length-drop 1 s, begun)
 
   module _ (plus : getD s 0 0 ≡ 45 → ⊥) (is : d ≡ digitsRun s) where
-    pub plus-refused : d ≡ D.Wrong → N.Refused 4 ≡ asNumber (number 0 s)
+    pub plus-refused : d ≡ D.Wrong → N.Refused NUMBER ≡ asNumber (number 0 s)
     unfolding place
     plus-refused q = sym (rw (plus-is s begun plus, subst (Means s) (sym is ∙ q) (means s)))
 
-    pub plus-number : (v n : ℕ) → d ≡ D.Good v n → (w : ℕ) → w ≡ 1000000000 + v → N.Number w n ≡ asNumber (number 0 s)
+    pub plus-number : (v n : ℕ) → d ≡ D.Good v n → (w : ℕ) → w ≡ middle + v → N.Number w n ≡ asNumber (number 0 s)
     unfolding place
     plus-number v n q w e = let (x, y) = good s d is v n q in sym (rw (plus-is s begun plus, x, length-run digit s (run digit s) refl, y, e))
 

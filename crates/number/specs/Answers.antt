@@ -1,8 +1,8 @@
 -- What the code answers for what the meaning reads: one function for each type of answer.
-use Prim.Native.Nat.{ℕ, zero, suc}
 use Rattle.meaning.specs.Reading.{Got, got, wrong}
-use Rattle.meaning.specs.Number.{Written, Value, missing, number-at, Entry}
-use Rattle.theory.specs.Answer.{asShown}
+use Rattle.meaning.specs.Number.{Written, Entry}
+use Rattle.theory.specs.Reading.Answer.{asShown}
+use Rattle.marks.specs.Codes.{coded}
 use Rattle.number.specs.declared.NumberPiece.{NumberPiece}
 use Rattle.number.specs.declared.NumberPiece.the-variants as N
 use Rattle.number.specs.declared.EntryPiece.{EntryPiece}
@@ -13,16 +13,6 @@ use Rattle.number.specs.declared.End.the-variants as D
 -- a number: its place, and the length of its text
 abbrev pub asNumber : Got Written → NumberPiece
 asNumber = asShown (λ w. w .shown) (λ w n. N.Number (w .at) n) N.Refused
-
--- a value in one number: 0 for `?`, otherwise the place and 1 more
-abbrev pub coded : Value → ℕ
-coded missing = 0
-coded (number-at v) = suc v
-
--- the value that a number stands for
-unfoldable pub valueOf : ℕ → Value
-valueOf zero = missing
-valueOf (suc v) = number-at v
 
 -- an entry: its value, and the length of its text
 abbrev pub asEntry : Got Entry → EntryPiece

@@ -2,11 +2,12 @@
 ghost use mathlib.Core.Path.{_≡_};
 ghost use Prim.Native.Nat.{_+_, _<_};
 ghost use lib.Dec.{eqb};
+ghost use Rattle.meaning.specs.Reading.{closed};
 ghost use Rattle.meaning.specs.Name.{digit};
-ghost use Rattle.meaning.specs.Number.{middle, number, entry, endLine};
+ghost use Rattle.meaning.specs.Limits.{middle};
+ghost use Rattle.meaning.specs.Number.{number, entry, endLine};
 ghost use Rattle.number.specs.Answers.{asNumber, asEntry, asEnd};
 ghost use Rattle.number.specs.Digits.{needlessZero, amountRun, digitsRun};
-ghost use Rattle.number.specs.Ending.{closed};
 
 // A number: its place, and how many bytes it took; or the refusal's number.
 pub enum NumberPiece {
@@ -25,9 +26,6 @@ pub enum End {
     Done,
     Refused(u8, usize),
 }
-
-// The place of 0, which is also the greatest amount.
-const MIDDLE: u64 = 1000000000;
 
 // A run of digits: its value and its length, where it stands for one in the range.
 enum Digits {
@@ -73,7 +71,7 @@ fn amount_run(s: &[u8]) -> Digits
             return Digits::Good(v, i);
         }
         v = v * 10 + (wide(b) - 48);
-        if MIDDLE < v {
+        if limits::MIDDLE < v {
             return Digits::Wrong;
         }
         i += 1;
@@ -98,34 +96,34 @@ fn digits_run(s: &[u8]) -> Digits
     Digits::Good(v, n)
 }
 
-// The number at the start of `s`.
+// The number at the start of `s`, and how many bytes it took.
 pub fn number_piece(s: &[u8]) -> NumberPiece
     ensures { λ r. ⌜ r ≡ asNumber (number 0 (now (s .entry))) ⌝ }
 {
     if s.len() == 0 {
-        return NumberPiece::Refused(2);
+        return NumberPiece::Refused(reply::LINE);
     }
     if s[0] == b'-' {
         let Digits::Good(v, n) = digits_run(&s[1..]) else {
-            return NumberPiece::Refused(4);
+            return NumberPiece::Refused(reply::NUMBER);
         };
         if v == 0 {
-            return NumberPiece::Refused(4);
+            return NumberPiece::Refused(reply::NUMBER);
         }
-        return NumberPiece::Number(MIDDLE - v, n + 1);
+        return NumberPiece::Number(limits::MIDDLE - v, n + 1);
     }
     let Digits::Good(v, n) = digits_run(s) else {
-        return NumberPiece::Refused(4);
+        return NumberPiece::Refused(reply::NUMBER);
     };
-    NumberPiece::Number(MIDDLE + v, n)
+    NumberPiece::Number(limits::MIDDLE + v, n)
 }
 
-// The value at the start of `s`.
+// The value at the start of `s`: a number or `?`.
 pub fn entry_piece(s: &[u8]) -> EntryPiece
     ensures { λ r. ⌜ r ≡ asEntry (entry 0 (now (s .entry))) ⌝ }
 {
     if s.len() == 0 {
-        return EntryPiece::Refused(2);
+        return EntryPiece::Refused(reply::LINE);
     }
     if s[0] == b'?' {
         return EntryPiece::Entry(0, 1);
@@ -141,31 +139,31 @@ pub fn entry_piece(s: &[u8]) -> EntryPiece
 fn is_count(v: u64, count: usize) -> bool
     ensures { λ r. ⌜ r ≡ eqb v (middle + count) ⌝ }
 {
-    if v < MIDDLE {
+    if v < limits::MIDDLE {
         return false;
     }
-    v - MIDDLE == count as u64
+    v - limits::MIDDLE == count as u64
 }
 
-// What stands behind the count: the LF of the last line, and nothing more.
-fn closing(s: &[u8]) -> End
+// The end of a paper: the LF of its last line, and nothing more.
+pub fn closing(s: &[u8]) -> End
     ensures { λ r. ⌜ r ≡ asEnd (closed 0 (now (s .entry))) ⌝ }
 {
     if !text::starts(s, b"\n") {
-        return End::Refused(2, 0);
+        return End::Refused(reply::LINE, 0);
     }
     if s.len() != 1 {
-        return End::Refused(2, 1);
+        return End::Refused(reply::LINE, 1);
     }
     End::Done
 }
 
-// The line `end=` with the count, behind which nothing stands.
+// The last line, `end=` with the count, behind which nothing stands.
 pub fn end_line(s: &[u8], count: usize) -> End
     ensures { λ r. ⌜ r ≡ asEnd (endLine count 0 (now (s .entry))) ⌝ }
 {
     if !text::starts(s, b"end=") {
-        return End::Refused(2, 0);
+        return End::Refused(reply::LINE, 0);
     }
     let told = text::rest(s, 4);
     let p = number_piece(told);
@@ -173,7 +171,7 @@ pub fn end_line(s: &[u8], count: usize) -> End
         NumberPiece::Refused(k) => End::Refused(k, 0),
         NumberPiece::Number(v, n) => {
             if !is_count(v, count) {
-                return End::Refused(2, 0);
+                return End::Refused(reply::LINE, 0);
             }
             closing(text::rest(told, n))
         }

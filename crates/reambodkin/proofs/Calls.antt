@@ -1,4 +1,5 @@
--- Calls of the doors: what each DECLARES of its arguments, its reply and what it leaves (`Learnt`: the clauses of its contract, as a caller learns them), and that this is what the meaning answers.
+-- Calls of the doors: what each DECLARES of its arguments, its reply and what it leaves (`Learnt`: the clauses of its contract, as a caller learns them), and
+-- that this is what the meaning answers.
 use Prim.Native.Nat.{ℕ, _≤_}
 use mathlib.Core.Path.{_≡_, sym, _∙_, subst}
 use mathlib.Core.List.{List, [], _∷_, map}
@@ -17,9 +18,9 @@ use Rattle.meaning.specs.Tests.{tests}
 use Rattle.meaning.specs.Outlook.{IsOutlook}
 use Rattle.meaning.specs.Why.{coded}
 use Rattle.meaning.specs.Doors.{Case, readCase, Next, next, reasonsIn, why, stepAnswer, outlookAnswer, whyAnswer, stepReply, stepSpace, outlookReply, outlookSpace, whyReply, whySpace}
-use Rattle.theory.specs.Numbers.{step-tells, outlook-tells, why-tells}
-use Rattle.theory.specs.Cases.{at, after, Known}
-use Rattle.theory.specs.Requests.{step-of, outlook-of, why-of}
+use Rattle.theory.specs.Requests.Numbers.{step-tells, outlook-tells, why-tells}
+use Rattle.theory.specs.Requests.Cases.{at, after, Known}
+use Rattle.theory.specs.Requests.Taken.{step-of, outlook-of, why-of}
 use Rattle.theory.specs.Demands.{outlook-right, outlook-alone}
 use Rattle.reply.specs.declared.Reply.{Reply}
 use Rattle.reambodkin.proofs.step.Reads as Step
@@ -110,31 +111,46 @@ module _ {s c e lent : List ℕ} {r : Reply} {out : List ℕ} where
       record { answer = rw (p, q, t, l) at (d .declared .0); space = rw (p, q, t, l, o) at (d .declared .1) }
 
   -- a refusal's numbers, by the call's
-  pub step-refused : Stepped s c e lent r out → (r .number ≡ 0 → ⊥) → (stepAnswer s c e (length lent) ≡ refused (r .number) (r .paper) (r .line)) × ((r .number ≤ 9) × (r .paper ≤ 3)) × (r .count ≡ 0) × (r .tasks ≡ 0) × (out ≡ lent)
+  pub step-refused : Stepped s c e lent r out → (r .number ≡ 0 → ⊥)
+      → (stepAnswer s c e (length lent) ≡ refused (r .number) (r .paper) (r .line)) × ((r .number ≤ 9) × (r .paper ≤ 3)) × (r .count ≡ 0) × (r .tasks ≡ 0)
+      × (out ≡ lent)
   step-refused d = refused-back (stepped d) (step-tells s c e (length lent))
 
-  pub outlook-refused : Looked s c e lent r out → (r .number ≡ 0 → ⊥) → (outlookAnswer s c e (length lent) ≡ refused (r .number) (r .paper) (r .line)) × ((r .number ≤ 10) × (r .paper ≤ 3)) × (r .count ≡ 0) × (r .tasks ≡ 0) × (out ≡ lent)
+  pub outlook-refused : Looked s c e lent r out → (r .number ≡ 0 → ⊥)
+      → (outlookAnswer s c e (length lent) ≡ refused (r .number) (r .paper) (r .line)) × ((r .number ≤ 10) × (r .paper ≤ 3)) × (r .count ≡ 0) × (r .tasks ≡ 0)
+      × (out ≡ lent)
   outlook-refused d = refused-back (looked d) (outlook-tells s c e (length lent))
 
-  pub why-refused : Asked s c e lent r out → (r .number ≡ 0 → ⊥) → (whyAnswer s c e (length lent) ≡ refused (r .number) (r .paper) (r .line)) × ((r .number ≤ 9) × (r .paper ≤ 3)) × (r .count ≡ 0) × (r .tasks ≡ 0) × (out ≡ lent)
+  pub why-refused : Asked s c e lent r out → (r .number ≡ 0 → ⊥)
+      → (whyAnswer s c e (length lent) ≡ refused (r .number) (r .paper) (r .line)) × ((r .number ≤ 9) × (r .paper ≤ 3)) × (r .count ≡ 0) × (r .tasks ≡ 0)
+      × (out ≡ lent)
   why-refused d = refused-back (asked d) (why-tells s c e (length lent))
 
   -- the case whose step, outlook or reasons it is
-  pub step-took : Stepped s c e lent r out → r .number ≡ 0 → (k : Case) × (readCase s c e ≡ taken k) × Given (λ (n : Next). n .card) (λ (n : Next). pattern (n .tasks)) lent r out (next k)
+  pub step-took : Stepped s c e lent r out → r .number ≡ 0
+      → (k : Case) × (readCase s c e ≡ taken k) × Given (λ (n : Next). n .card) (λ (n : Next). pattern (n .tasks)) lent r out (next k)
   step-took d z =
       let (n, q, g) = taken-back (stepped d) (step-tells s c e (length lent)) z in
       let (k, read, is) = step-of s c e (length lent) n q in
       (k, read, subst (Given (λ (n : Next). n .card) (λ (n : Next). pattern (n .tasks)) lent r out) is g)
 
-  pub outlook-took : Looked s c e lent r out → r .number ≡ 0 → (k : Case) × (readCase s c e ≡ taken k) × Given (λ (l : List ℕ). l) (λ (l : List ℕ). 0) lent r out (take (r .count) out)
+  pub outlook-took : Looked s c e lent r out → r .number ≡ 0
+      → (k : Case) × (readCase s c e ≡ taken k) × Given (λ (l : List ℕ). l) (λ (l : List ℕ). 0) lent r out (take (r .count) out)
       × IsOutlook (tests (k .sheet)) (at k) (take (r .count) out) × (Known (at k .values) → take (r .count) out ≡ pattern (after k) ∷ [])
   outlook-took d z =
       let (l, q, g) = taken-back (looked d) (outlook-tells s c e (length lent)) z in
       let (k, read, is) = outlook-of s c e (length lent) l q in
-      let same = sym (g .front) in
-      (k, read, subst (Given (λ (l : List ℕ). l) (λ (l : List ℕ). 0) lent r out) same g, subst (IsOutlook (tests (k .sheet)) (at k)) same (outlook-right s c e k l read is), λ h. g .front ∙ outlook-alone k l is h)
+      let same = sym (g .front) in (
+        k,
+        read,
+        subst (Given (λ (l : List ℕ). l) (λ (l : List ℕ). 0) lent r out) same g,
+        subst (IsOutlook (tests (k .sheet)) (at k)) same
+            (outlook-right s c e k l read is),
+        λ h. g .front ∙ outlook-alone k l is h,
+      )
 
-  pub why-took : Asked s c e lent r out → r .number ≡ 0 → (k : Case) × (readCase s c e ≡ taken k) × Given (λ (l : List ℕ). l) (λ (l : List ℕ). 0) lent r out (map coded (reasonsIn k))
+  pub why-took : Asked s c e lent r out → r .number ≡ 0
+      → (k : Case) × (readCase s c e ≡ taken k) × Given (λ (l : List ℕ). l) (λ (l : List ℕ). 0) lent r out (map coded (reasonsIn k))
   unfolding why
   why-took d z =
       let (l, q, g) = taken-back (asked d) (why-tells s c e (length lent)) z in

@@ -1,4 +1,5 @@
--- Calls of the functions behind the clerk's words `check`, `blank`, `outlook`: what each DECLARES of its input, the length that it tells and the space that it leaves, and the text that then stands there.
+-- Calls of the functions behind the desk and the clerk's words `check`, `blank`, `outlook`: what each DECLARES of its input, the length that it tells and the
+-- space that it leaves, and the text that then stands there.
 use Prim.Native.Nat.{ℕ, _≤_, _<_}
 use mathlib.Core.Path.{_≡_, refl, sym, _∙_, ap}
 use mathlib.Core.List.{List, _++_}
@@ -20,27 +21,31 @@ use Rattle.meaning.specs.Circle.{Edge, around, IsCircle, ToldOn, circle, edgeLi
 use Rattle.meaning.specs.Outlook.{parts}
 use Rattle.meaning.specs.Write.{line}
 use Rattle.meaning.specs.Doors.{Accepted, readSheet, Case, readCase, outlook}
-use Rattle.meaning.specs.Desk.{firstPaper, afterPaper, refusalText, outlookLines}
+use Rattle.meaning.specs.Desk.{firstPaper, afterPaper, refusalText, outlookLines, deskOutput}
 use Rattle.meaning.specs.Clerk.{sheetTold, circleLine, checkOutput, blankCard, blankPrinted, blankOutput, prospectsTold, outlookPrinted, outlookOutput}
-use Rattle.theory.specs.Numbers.{outlook-tells}
-use Rattle.theory.specs.Cases.{at}
-use Rattle.theory.specs.Checks.{sheet-circle, check-circle, check-sheet}
-use Rattle.theory.specs.Requests.{outlook-of}
+use Rattle.theory.specs.Requests.Numbers.{outlook-tells}
+use Rattle.theory.specs.Requests.Cases.{at}
+use Rattle.theory.specs.Clerk.Checks.{sheet-circle, check-circle, check-sheet}
+use Rattle.theory.specs.Requests.Taken.{outlook-of}
 use Rattle.theory.specs.Demands.{outlook-many}
 use Rattle.reply.specs.declared.Reply.{Reply}
 use Rattle.sets.proofs.Callers.{front-take}
-use Rattle.checkup.proofs.check_output.Reads as Check
-use Rattle.checkup.proofs.check_output.Kinds as CheckKinds
-use Rattle.checkup.proofs.check_output.Statement as CheckCode
-use Rattle.checkup.proofs.check_output.Met as CheckMet
-use Rattle.checkup.proofs.blank_output.Reads as Blank
-use Rattle.checkup.proofs.blank_output.Kinds as BlankKinds
-use Rattle.checkup.proofs.blank_output.Statement as BlankCode
-use Rattle.checkup.proofs.blank_output.Met as BlankMet
-use Rattle.lookout.proofs.outlook_output.Reads as Outlook
-use Rattle.lookout.proofs.outlook_output.Kinds as OutlookKinds
-use Rattle.lookout.proofs.outlook_output.Statement as OutlookCode
-use Rattle.lookout.proofs.outlook_output.Met as OutlookMet
+use Rattle.clerk_check.proofs.check_output.Reads as Check
+use Rattle.clerk_check.proofs.check_output.Kinds as CheckKinds
+use Rattle.clerk_check.proofs.check_output.Statement as CheckCode
+use Rattle.clerk_check.proofs.check_output.Met as CheckMet
+use Rattle.clerk_check.proofs.blank_output.Reads as Blank
+use Rattle.clerk_check.proofs.blank_output.Kinds as BlankKinds
+use Rattle.clerk_check.proofs.blank_output.Statement as BlankCode
+use Rattle.clerk_check.proofs.blank_output.Met as BlankMet
+use Rattle.desk_output.proofs.desk_output.Reads as Desk
+use Rattle.desk_output.proofs.desk_output.Kinds as DeskKinds
+use Rattle.desk_output.proofs.desk_output.Statement as DeskCode
+use Rattle.desk_output.proofs.desk_output.Met as DeskMet
+use Rattle.clerk_outlook.proofs.outlook_output.Reads as Outlook
+use Rattle.clerk_outlook.proofs.outlook_output.Kinds as OutlookKinds
+use Rattle.clerk_outlook.proofs.outlook_output.Statement as OutlookCode
+use Rattle.clerk_outlook.proofs.outlook_output.Met as OutlookMet
 use Rattle.reambodkin.proofs.Script.{taken-back}
 use Rattle.reambodkin.proofs.Calls.{InOrder, Looked, looked}
 
@@ -50,6 +55,13 @@ WordsKeep M = CheckCode.statement M × BlankCode.statement M × OutlookCode.stat
 
 pub words-keep : {M : Type 1} → WordsKeep M
 words-keep = (CheckMet.met, BlankMet.met, OutlookMet.met)
+
+-- and of the desk
+abbrev pub DeskKeeps : Type 1 → Type 2
+DeskKeeps M = DeskCode.statement M
+
+pub desk-keeps : {M : Type 1} → DeskKeeps M
+desk-keeps = DeskMet.met
 
 -- a call of `check_output` on the input s and the space `lent`, with the length n and the space left as `out`
 pub record Checked (s lent : List ℕ) (n : ℕ) (out : List ℕ) : Type 0 where
@@ -78,7 +90,19 @@ pub record Named (s lent : List ℕ) (n : ℕ) (out : List ℕ) : Type 0 where
   pub input : now (handed .0) ≡ s
   pub space : (now (handed .1 .0) ≡ lent) × (now (left .1 .0) ≡ out)
 
+-- and of `desk_output`
+pub record Desked (s lent : List ℕ) (n : ℕ) (out : List ℕ) : Type 0 where
+  pub lifetimes : Lfts 2
+  pub handed : Dens lifetimes DeskKinds.ps
+  pub left : AtExit (endedOf 2 DeskKinds.ps DeskKinds.r) lifetimes
+  pub declared : Desk.Learnt lifetimes handed n left
+  pub input : now (handed .0) ≡ s
+  pub space : (now (handed .1 .0) ≡ lent) × (now (left .1 .0) ≡ out)
+
 module _ {s lent : List ℕ} {n : ℕ} {out : List ℕ} where
+  pub desked : Desked s lent n out → take n out ≡ deskOutput s
+  desked d = let (l, o) = d .space in rw (d .input, o) at (front-take (d .declared))
+
   pub checked : Checked s lent n out → take n out ≡ checkOutput s
   checked d = let (l, o) = d .space in rw (d .input, o) at (front-take (d .declared))
 
@@ -93,7 +117,8 @@ module _ {s lent : List ℕ} {n : ℕ} {out : List ℕ} where
 module _ {s lent : List ℕ} {n : ℕ} {out : List ℕ} where
   -- with a cycle: the circle, each of its edges on its line
   pub checked-circle : Checked s lent n out → (sh : Sheet) → InOrder s sh → Cycle (predecessors (tests sh))
-      → (take n out ≡ refusalText CYCLE 1 0 ++ joined (circleLine sh) (around (circle sh))) × IsCircle (predecessors (tests sh)) (circle sh) × ((e : Edge) → In e (around (circle sh)) → ToldOn sh e (edgeLine sh e))
+      → (take n out ≡ refusalText CYCLE 1 0 ++ joined (circleLine sh) (around (circle sh))) × IsCircle (predecessors (tests sh)) (circle sh) ×
+      ((e : Edge) → In e (around (circle sh)) → ToldOn sh e (edgeLine sh e))
   checked-circle d sh q c =
       let (right, cycle) = sheet-circle s sh q in
       let (is, lines) = right (cycle .1 c) in
@@ -122,18 +147,21 @@ pub record Holds (input s c e : List ℕ) : Type 0 where
   pub event : afterPaper (afterPaper input) ≡ e
 
 -- what is printed for them
-pub printed-for : {input s c e : List ℕ} → Holds input s c e → (k : Case) → readCase s c e ≡ taken k → outlookOutput input ≡ prospectsTold (statusNames (statuses (k .sheet .heads))) (outlook k)
+pub printed-for : {input s c e : List ℕ} → Holds input s c e → (k : Case) → readCase s c e ≡ taken k
+    → outlookOutput input ≡ prospectsTold (statusNames (statuses (k .sheet .heads))) (outlook k)
 unfolding outlookOutput outlookPrinted
 printed-for {input} h k q = rw (le-ltb deskBytes (length input) (h .short), h .sheet, h .card, h .event, q)
 
 -- the list that the door gives is the outlook of the case
-pub door-listed : {s c e lent list : List ℕ} {r : Reply} → Looked s c e lent r list → r .number ≡ 0 → (k : Case) × (readCase s c e ≡ taken k) × (outlook k ≡ taken (take (r .count) list))
+pub door-listed : {s c e lent list : List ℕ} {r : Reply} → Looked s c e lent r list → r .number ≡ 0
+    → (k : Case) × (readCase s c e ≡ taken k) × (outlook k ≡ taken (take (r .count) list))
 door-listed {s} {c} {e} {lent} d z =
     let (l, q, g) = taken-back (looked d) (outlook-tells s c e (length lent)) z in
     let (k, read, is) = outlook-of s c e (length lent) l q in
     (k, read, is ∙ ap taken (sym (g .front)))
 
 -- with more than 4,096 combinations
-pub many-told : (k : Case) → partLimit < parts (tests (k .sheet)) 0 (at k .values) → prospectsTold (statusNames (statuses (k .sheet .heads))) (outlook k) ≡ line (text "outlook") (text "refused")
+pub many-told : (k : Case) → partLimit < parts (tests (k .sheet)) 0 (at k .values)
+    → prospectsTold (statusNames (statuses (k .sheet .heads))) (outlook k) ≡ line (text "outlook") (text "refused")
 unfolding prospectsTold outlookLines
 many-told k h = rw (outlook-many k .1 h)

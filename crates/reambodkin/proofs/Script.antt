@@ -9,7 +9,7 @@ use lib.Dec.{T, leb, leb→le}
 use lib.Seq.{take-at, drop-at}
 use Rattle.meaning.specs.Refusal.{Answer, taken, refused}
 use Rattle.meaning.specs.Doors.{replied, written}
-use Rattle.theory.specs.Numbers.{Tells}
+use Rattle.theory.specs.Requests.Numbers.{Tells}
 use Rattle.reply.specs.declared.Reply.{Reply}
 use Rattle.reply.specs.Answers.{asReply, refusedReply}
 
@@ -60,15 +60,18 @@ module _ {A : Type 0} {out : A → List ℕ} {tasks : A → ℕ} {x : Answer A} 
   told-exactly n p l some = (λ e. go x refl e, λ q. told-back n p l q .0)
     where
       go : (y : Answer A) → x ≡ y → r ≡ refusedReply n p l → x ≡ refused n p l
-      go (taken a) q e = absurd (let z : 0 ≡ n = sym (given-back a q .number .0) ∙ ap (λ (r : Reply). r .number) e in let h : 1 ≤ n = leb→le 1 n some in omega arith)
+      go (taken a) q e =
+          absurd (let z : 0 ≡ n = sym (given-back a q .number .0) ∙ ap (λ (r : Reply). r .number) e in let h : 1 ≤ n = leb→le 1 n some in omega arith)
       go (refused m o k) q e = q ∙ ap (λ (r : Reply). refused (r .number) (r .paper) (r .line)) (sym (told-back m o k q .0) ∙ e)
 
   -- with numbers from 1 on, a reply is that of a refusal or of a result by its number
   module _ {most : ℕ} (tells : Tells x (λ n p. (1 ≤ n) × (n ≤ most) × (p ≤ 3))) where
-    pub refused-back : (r .number ≡ 0 → ⊥) → (x ≡ refused (r .number) (r .paper) (r .line)) × ((r .number ≤ most) × (r .paper ≤ 3)) × (r .count ≡ 0) × (r .tasks ≡ 0) × (now ≡ lent)
+    pub refused-back : (r .number ≡ 0 → ⊥)
+        → (x ≡ refused (r .number) (r .paper) (r .line)) × ((r .number ≤ most) × (r .paper ≤ 3)) × (r .count ≡ 0) × (r .tasks ≡ 0) × (now ≡ lent)
     refused-back z = go x refl
       where
-        go : (y : Answer A) → x ≡ y → (x ≡ refused (r .number) (r .paper) (r .line)) × ((r .number ≤ most) × (r .paper ≤ 3)) × (r .count ≡ 0) × (r .tasks ≡ 0) × (now ≡ lent)
+        go : (y : Answer A) → x ≡ y
+            → (x ≡ refused (r .number) (r .paper) (r .line)) × ((r .number ≤ most) × (r .paper ≤ 3)) × (r .count ≡ 0) × (r .tasks ≡ 0) × (now ≡ lent)
         go (taken a) q = absurd (z (given-back a q .number .0))
         go (refused n p l) q = let (e, s) = told-back n p l q in rw e (q, (tells .told n p l q .1, tells .told n p l q .2), refl, refl, s)
 

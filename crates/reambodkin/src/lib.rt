@@ -10,18 +10,14 @@ pub fn step<'a>(sheet: &[u8], card: &'a [u8], event: &'a [u8], out: &mut [u8]) -
     ensures answer { λ r. ⌜ r ≡ asReply (stepReply (now (sheet .entry)) (now (card .entry)) (now (event .entry)) (length (now (out .entry)))) ⌝ }
     ensures space { λ r. ⌜ now (out .exit) ≡ stepSpace (now (sheet .entry)) (now (card .entry)) (now (event .entry)) (now (out .entry)) ⌝ }
 {
-    let accepted = accepted::accept(sheet);
-    if accepted.number != 0 {
-        return reply::refusal(accepted.number, reply::SHEET, accepted.line);
+    let case = case_read::read_case(sheet, card, event);
+    if case.number != 0 {
+        return reply::refusal(case.number, case.paper, case.line);
     }
-    let heads = accepted.heads;
-    let told = case::read_told(heads, card, event);
-    if told.number != 0 {
-        return reply::refusal(told.number, told.paper, told.line);
-    }
-    let given = told.card;
-    let happening = told.happening;
-    next::step_case(accepted, given, happening, card, event, out)
+    let accepted = case.sheet;
+    let given = case.card;
+    let happening = case.happening;
+    step_case::step_case(accepted, given, happening, card, event, out)
 }
 
 // The outlook: every pattern that may still come, ascending, at the start of `out`, and how many there are; or a refusal, and `out` is untouched.
@@ -29,37 +25,30 @@ pub fn outlook(sheet: &[u8], card: &[u8], event: &[u8], out: &mut [u32]) -> Repl
     ensures answer { λ r. ⌜ r ≡ asReply (outlookReply (now (sheet .entry)) (now (card .entry)) (now (event .entry)) (length (now (out .entry)))) ⌝ }
     ensures space { λ r. ⌜ now (out .exit) ≡ outlookSpace (now (sheet .entry)) (now (card .entry)) (now (event .entry)) (now (out .entry)) ⌝ }
 {
-    let accepted = accepted::accept(sheet);
-    if accepted.number != 0 {
-        return reply::refusal(accepted.number, reply::SHEET, accepted.line);
+    let case = case_read::read_case(sheet, card, event);
+    if case.number != 0 {
+        return reply::refusal(case.number, case.paper, case.line);
     }
-    let heads = accepted.heads;
-    let told = case::read_told(heads, card, event);
-    if told.number != 0 {
-        return reply::refusal(told.number, told.paper, told.line);
-    }
-    let given = told.card;
-    let happening = told.happening;
-    let moment = moment::moment_of(given, happening);
-    outlook::outlook_case(accepted, moment, out)
+    let accepted = case.sheet;
+    let given = case.card;
+    let happening = case.happening;
+    let moment = step_moment::moment_of(given, happening);
+    outlook_case::outlook_case(accepted, moment, out)
 }
 
-// Why each status changed, or what stopped each line of its change: the reasons as numbers, ascending, at the start of `out`, and how many there are; or a refusal, and `out` is untouched.
+// Why each status changed, or what stopped each line of its change: the reasons as numbers, ascending, at the start of `out`, and how many there are; or a
+// refusal, and `out` is untouched.
 pub fn why(sheet: &[u8], card: &[u8], event: &[u8], out: &mut [u32]) -> Reply
     ensures answer { λ r. ⌜ r ≡ asReply (whyReply (now (sheet .entry)) (now (card .entry)) (now (event .entry)) (length (now (out .entry)))) ⌝ }
     ensures space { λ r. ⌜ now (out .exit) ≡ whySpace (now (sheet .entry)) (now (card .entry)) (now (event .entry)) (now (out .entry)) ⌝ }
 {
-    let accepted = accepted::accept(sheet);
-    if accepted.number != 0 {
-        return reply::refusal(accepted.number, reply::SHEET, accepted.line);
+    let case = case_read::read_case(sheet, card, event);
+    if case.number != 0 {
+        return reply::refusal(case.number, case.paper, case.line);
     }
-    let heads = accepted.heads;
-    let told = case::read_told(heads, card, event);
-    if told.number != 0 {
-        return reply::refusal(told.number, told.paper, told.line);
-    }
-    let given = told.card;
-    let happening = told.happening;
-    let moment = moment::moment_of(given, happening);
-    why::why_case(accepted, moment, out)
+    let accepted = case.sheet;
+    let given = case.card;
+    let happening = case.happening;
+    let moment = step_moment::moment_of(given, happening);
+    why_case::why_case(accepted, moment, out)
 }

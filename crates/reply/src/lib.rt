@@ -39,7 +39,7 @@ pub struct Reply {
     pub tasks: u32,
 }
 
-// A refusal: its other numbers are 0.
+// A refusal: number, paper and line; its other numbers are 0.
 pub fn refusal(number: u8, paper: u8, line: usize) -> Reply
     ensures { λ r. ⌜ r ≡ refusedReply number paper line ⌝ }
 {

@@ -34,10 +34,12 @@ module _ {l b a : List ℕ} {n : ℕ} (f : Front l n b a) where
       record { count = g .count; list = g .list ∙ ap (λ t. m ++ t) same }
 
 -- a list in the front of a part that runs to the end, `&mut xs[a..]`, once the part is back
-pub front-tail : {l xs ys : List ℕ} {a m : ℕ} → a ≤ length xs → Front l m (take (length xs - a) (drop a xs)) ys → Front (take a xs ++ l) (a + m) xs (putMid a (length xs - a) xs ys)
+pub front-tail : {l xs ys : List ℕ} {a m : ℕ} → a ≤ length xs → Front l m (take (length xs - a) (drop a xs)) ys
+    → Front (take a xs ++ l) (a + m) xs (putMid a (length xs - a) xs ys)
 front-tail {l} {xs} {ys} {a} {m} h f = record {
   count = rw (length-append, length-take-le a xs h) (ap (λ n. a + n) (f .count));
-  list = back ∙ ap (λ t. take a xs ++ t) (f .list ∙ ap (λ t. l ++ drop m t) part ∙ ap (λ t. l ++ t) (drop-drop m a xs)) ∙ sym (append-assoc (take a xs) l (drop (a + m) xs));
+  list = back ∙ ap (λ t. take a xs ++ t) (f .list ∙ ap (λ t. l ++ drop m t) part ∙ ap (λ t. l ++ t) (drop-drop m a xs))
+      ∙ sym (append-assoc (take a xs) l (drop (a + m) xs));
 }
   where
     part : take (length xs - a) (drop a xs) ≡ drop a xs

@@ -12,7 +12,7 @@ use lib.ListN.{length, getD, set, take, drop, length-append, length-take, length
 use lib.Seq.{length-take-le, getD-take, take-take}
 use borrow.Author.Tests.{eq-eqb, ne-eqb, lt-ltb, le-ltb}
 use Rattle.meaning.specs.Outlook.{insert}
-use Rattle.theory.specs.Ascending.{Up, up-places}
+use Rattle.theory.specs.Lists.Ascending.{Up, up-places}
 use Rattle.sets.specs.Front.{Front, below, shifted}
 use Rattle.sets.proofs.Places.{below-is, insert-there, insert-between}
 
@@ -40,7 +40,8 @@ module _ (a : List ℕ) (n v : ℕ) where
       bracket-up c k e = record {
         lo-le = omega arith;
         hi-le = b .hi-le;
-        under = λ i l. ⊎-elim (λ (e : i ≡ m). subst (λ (j : ℕ). getD a j 0 < v) (sym e) c) (λ (h : i < m). lt-trans (first-up i m h (omega (arith, b .hi-le))) c) (eq-or-lt-of-le (omega arith));
+        under = λ i l. ⊎-elim (λ (e : i ≡ m). subst (λ (j : ℕ). getD a j 0 < v) (sym e) c)
+            (λ (h : i < m). lt-trans (first-up i m h (omega (arith, b .hi-le))) c) (eq-or-lt-of-le (omega arith));
         over = b .over;
       }
 
@@ -49,7 +50,8 @@ module _ (a : List ℕ) (n v : ℕ) where
         lo-le = omega arith;
         hi-le = omega (arith, b .hi-le);
         under = b .under;
-        over = λ i l h. ⊎-elim (λ (e : m ≡ i). subst (λ (j : ℕ). v ≤ getD a j 0) e c) (λ (g : m < i). le-trans c (le-of-lt (first-up m i g h))) (eq-or-lt-of-le l);
+        over = λ i l h. ⊎-elim (λ (e : m ≡ i). subst (λ (j : ℕ). v ≤ getD a j 0) e c) (λ (g : m < i). le-trans c (le-of-lt (first-up m i g h)))
+            (eq-or-lt-of-le l);
       }
 
   pub bracket-done : n ≤ length a → (lo hi : ℕ) → Bracket a n v lo hi → hi ≤ lo → lo ≡ below v (take n a)
@@ -138,7 +140,8 @@ module _ (a : List ℕ) (n v p : ℕ) (room : n < length a) (is : p ≡ below v 
   insert-shifted t h after e r c =
       let l : length (take n a) ≡ n = length-take-le n a (omega arith) in
       let q : insert v (take n a) ≡ take p a ++ (v ∷ drop p (take n a)) =
-      insert-between v p (take n a) is (λ g w. let k : p < n = omega arith in not-there t k (sym (getD-take n a p 0 k) ∙ w)) ∙ ap (λ t. t ++ (v ∷ drop p (take n a))) (take-take p n a h) in
+      insert-between v p (take n a) is (λ g w. let k : p < n = omega arith in not-there t k (sym (getD-take n a p 0 k) ∙ w))
+      ∙ ap (λ t. t ++ (v ∷ drop p (take n a))) (take-take p n a h) in
       let z : r ≡ suc n = omega arith in
       rw q (record {
         count = simp (length-append, length-take, length-drop) (omega (arith, length-take n a));

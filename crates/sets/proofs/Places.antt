@@ -7,7 +7,7 @@ use lib.ListN.{length, getD, take, drop}
 use borrow.Author.Tests.{lt-ltb, le-ltb}
 use Rattle.meaning.specs.Text.{run}
 use Rattle.meaning.specs.Outlook.{insert}
-use Rattle.theory.specs.Ascending.{Placing, lower, equal, higher, placing, insert-lower, insert-equal, insert-higher}
+use Rattle.theory.specs.Lists.Ascending.{Placing, lower, equal, higher, placing, insert-lower, insert-equal, insert-higher}
 use Rattle.sets.specs.Front.{below}
 
 -- one number more at the start
@@ -48,7 +48,8 @@ insert-between v (suc p) [] e n = absurd (omega arith)
 insert-between v p (x ∷ l) e n = go (placing v x) p e n (λ q. insert-between v q l)
   where
     go : Placing v x → (p : ℕ) → p ≡ below v (x ∷ l) → (p < length (x ∷ l) → getD (x ∷ l) p 0 ≡ v → ⊥)
-        → ((q : ℕ) → q ≡ below v l → (q < length l → getD l q 0 ≡ v → ⊥) → insert v l ≡ take q l ++ (v ∷ drop q l)) → insert v (x ∷ l) ≡ take p (x ∷ l) ++ (v ∷ drop p (x ∷ l))
+        → ((q : ℕ) → q ≡ below v l → (q < length l → getD l q 0 ≡ v → ⊥) → insert v l ≡ take q l ++ (v ∷ drop q l))
+        → insert v (x ∷ l) ≡ take p (x ∷ l) ++ (v ∷ drop p (x ∷ l))
     go (lower k) zero e n ih = insert-lower v x l k
     go (lower k) (suc p) e n ih = absurd (omega (arith, below-none v x l (omega arith)))
     go (equal k) zero e n ih = absurd (n (omega arith) (sym k))

@@ -6,7 +6,7 @@ ghost use mathlib.Core.Bool.{_&&_};
 ghost use lib.Dec.{ltb, eqb};
 ghost use lib.ListN.{length, getD, take, drop};
 ghost use Rattle.meaning.specs.Outlook.{insert};
-ghost use Rattle.theory.specs.Ascending.{Up};
+ghost use Rattle.theory.specs.Lists.Ascending.{Up};
 ghost use Rattle.sets.specs.Front.{Front, below, shifted};
 
 // How many of the first n numbers are below v.

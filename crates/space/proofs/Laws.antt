@@ -1,21 +1,26 @@
 -- Texts put into lent space, piece by piece: names, counts and single lines, in the form in which the functions' answers need them.
-use mathlib.Core.Path.{_≡_, refl, ap, sym, _∙_}
-use mathlib.Core.Bool.{Bool, true, false}
+use mathlib.Core.Path.{_≡_, refl, ap, sym, _∙_, subst}
 use mathlib.Core.List.{List, [], _∷_, _++_, append-assoc, append-nil}
-use Prim.Native.Nat.{ℕ, zero, suc, _+_, _-_, _*_, _/_, _%_, _<_, _≤_}
+use Prim.Native.Nat.{ℕ, zero, suc, _+_, _-_, _/_, _%_, _<_, _≤_}
 use native.Mathlib.Omega.{arith}
 use native.Mathlib.Nat.{add-assoc}
 use native.Mathlib.Numerals.{add-one}
-use borrow.Author.Tests.{eq-eqb, ne-eqb, le-leb, lt-leb, lt-ltb, le-ltb}
-use lib.Dec.{eqb, leb, ltb}
-use lib.ListN.{take-append-drop, length, drop, take, set, getD, length-drop, length-append, length-take, drop-of-length-le}
+use borrow.Author.Tests.{eq-eqb, ne-eqb, lt-ltb, le-ltb}
+use lib.ListN.{take-append-drop, length, drop, take, set, getD, length-drop, length-append, drop-of-length-le}
 use lib.Seq.{drop-cons, set-split, length-take-le, take-all, take-at, drop-drop, drop-append-add}
 use Rattle.meaning.specs.Text.{text}
 use Rattle.meaning.specs.Number.{decimal, writtenIn}
 use Rattle.meaning.specs.Write.{line, mark}
-use Rattle.theory.specs.Accepted.{line-length}
-use Rattle.text.specs.Packed.{byteOf, namedIn, named}
-use Rattle.space.specs.Answers.{over, Wrote, isYes}
+use Rattle.theory.specs.Writing.ReadBack.{line-length}
+use Rattle.theory.specs.Lists.Padded.{padded, padded-take, padded-length}
+use Rattle.name.specs.declared.Name.{Name as Kept}
+use Rattle.name.specs.declared.Spelling.{Spelling}
+use Rattle.name.specs.Names.{nameOf, spellRoom}
+use Rattle.name.specs.Answers.{spellingOf}
+use Rattle.name.proofs.Spelt.{spelt-short}
+use Rattle.marks.specs.Codes.{isYes}
+use Rattle.space.specs.Answers.{over, Wrote}
+use Rattle.theory.specs.Papers.Counts.{decimal-one}
 
 -- A TEXT OVER A PART OF THE SPACE
 
@@ -110,84 +115,114 @@ module _ (at₀ : ℕ) (w o₀ : List ℕ) (at i : ℕ) (o : List ℕ) (l : Left
 
 pub ruleset texting = (left-start, text-room, text-more, text-end, left-long)
 
--- NAMES
+-- NAMES, from the bytes of one that was spelt
+module _ (w : Kept) (p : Spelling) (is : p ≡ spellingOf (nameOf w)) where
+  count-is : p .length ≡ length (nameOf w)
+  count-is = ap (λ (q : Spelling). q .length) is
 
-pub symbol-none : (d : ℕ) → d ≡ 0 → 0 ≡ byteOf d
-unfolding byteOf
-symbol-none d e = rw e
+  bytes-is : p .bytes ≡ padded spellRoom 0 (nameOf w)
+  bytes-is = ap (λ (q : Spelling). q .bytes) is
 
-pub symbol-letter : (d r : ℕ) → (d ≡ 0 → ⊥) → d ≤ 26 → r ≡ d + 96 → r ≡ byteOf d
-unfolding byteOf
-symbol-letter d r h g e = rw (e, le-leb 1 d (omega arith), le-leb d 26 g)
+  spelt-is : take (p .length) (p .bytes) ≡ nameOf w
+  spelt-is = rw (bytes-is, count-is) (padded-take spellRoom 0 (nameOf w))
 
-pub symbol-digit : (d r : ℕ) → 26 < d → d ≤ 36 → r ≡ d + 21 → r ≡ byteOf d
-unfolding byteOf
-symbol-digit d r h g e = rw (e, le-leb 1 d (omega arith), lt-leb d 26 h, le-leb 27 d (omega arith), le-leb d 36 g)
+  pub name-within : p .length ≤ length (p .bytes)
+  name-within = omega (arith, count-is, spelt-short w, ap length bytes-is, padded-length spellRoom 0 (nameOf w) (spelt-short w))
 
-pub symbol-other : (d : ℕ) → 36 < d → 0 ≡ byteOf d
-unfolding byteOf
-symbol-other d h = rw (le-leb 1 d (omega arith), lt-leb d 26 (omega arith), le-leb 27 d (omega arith), lt-leb d 36 h)
+  pub name-count : length (take (p .length) (p .bytes)) ≡ p .length
+  name-count = rw spelt-is (sym count-is)
 
-pub ruleset symbols = (symbol-none, symbol-letter, symbol-digit, symbol-other)
+  module _ (at : ℕ) (o : List ℕ) where
+    pub name-room : at + length (nameOf w) ≤ length o → at + length (take (p .length) (p .bytes)) ≤ length o
+    name-room h = rw spelt-is h
 
-named-none : (k v : ℕ) → v ≡ 0 → namedIn k v ≡ []
-unfolding namedIn
-named-none zero v e = refl
-named-none (suc k) v e = rw (eq-eqb v 0 e, namedIn)
+    pub name-done : (o1 : List ℕ) (r : ℕ) → Wrote at (take (p .length) (p .bytes)) o o1 r → Wrote at (nameOf w) o o1 r
+    name-done o1 r y = rw spelt-is at y
 
-named-over : (k v : ℕ) → k ≤ 0 → namedIn k v ≡ []
-unfolding namedIn
-named-over zero v h = refl
-named-over (suc k) v h = absurd (omega arith)
+pub ruleset naming = (name-within, name-count, name-room, name-done)
 
-named-step : (k v : ℕ) → 0 < k → (v ≡ 0 → ⊥) → namedIn k v ≡ (byteOf (v % 38) ∷ []) ++ namedIn (k - 1) (v / 38)
-unfolding namedIn
-named-step zero v g h = absurd (omega arith)
-named-step (suc k) v g h = let z : suc k - 1 ≡ k = omega arith in rw (ne-eqb v 0 h, namedIn, z)
+-- PIECES, one behind the other
 
-module _ (at₀ n : ℕ) (o₀ : List ℕ) (at k v : ℕ) (o : List ℕ) (l : Left at₀ (named n) o₀ at (namedIn k v) o) where
-  pub name-room : 0 < k → (v ≡ 0 → ⊥) → at + 1 ≤ length o
-  name-room g h = left-room at₀ (named n) o₀ at (namedIn k v) o l (byteOf (v % 38) ∷ []) (namedIn (k - 1) (v / 38)) (named-step k v g h)
+-- nothing is written
+pub wrote-none : (at : ℕ) (w o : List ℕ) → at + length w ≤ length o → w ≡ [] → Wrote at w o o at
+wrote-none at w o h e = left-end at w o at w o (left-start at w o h) e
 
-  pub name-more : 0 < k → (v ≡ 0 → ⊥) → (b : ℕ) → b ≡ byteOf (v % 38) → (o1 : List ℕ) (r : ℕ) → Wrote at (b ∷ []) o o1 r
-      → (j u : ℕ) → j ≡ k - 1 → u ≡ v / 38 → Left at₀ (named n) o₀ r (namedIn j u) o1
-  name-more g h b e o1 r y j u p q =
-      rw (p, q) (left-more at₀ (named n) o₀ at (namedIn k v) o l (byteOf (v % 38) ∷ []) (namedIn (k - 1) (v / 38)) (named-step k v g h) o1 r (rw e at y))
+-- a text that is two pieces: room for the first, room for the second, and both
+module _ (at : ℕ) (w x y o : List ℕ) (whole : w ≡ x ++ y) (fits : at + length w ≤ length o) where
+  both-fit : at + length (x ++ y) ≤ length o
+  both-fit = rw whole at fits
 
-  pub name-end : v ≡ 0 → Wrote at₀ (named n) o₀ o at
-  name-end e = left-end at₀ (named n) o₀ at (namedIn k v) o l (named-none k v e)
+  pub first-room : at + length x ≤ length o
+  first-room = omega (arith, both-fit, length-append x y)
 
-  pub name-full : k ≤ 0 → Wrote at₀ (named n) o₀ o at
-  name-full h = left-end at₀ (named n) o₀ at (namedIn k v) o l (named-over k v h)
+  module _ (o1 : List ℕ) (a : ℕ) (v : Wrote at x o o1 a) where
+    pub second-room : a + length y ≤ length o1
+    second-room = wrote-room at x y o o1 a both-fit v
 
-pub name-start : (at n : ℕ) (o : List ℕ) → at + length (named n) ≤ length o → Left at (named n) o at (namedIn 13 n) o
-unfolding named
-name-start at n o h = left-start at (named n) o h
+    pub both-written : (o2 : List ℕ) (r : ℕ) → Wrote a y o1 o2 r → Wrote at w o o2 r
+    both-written o2 r u = subst (λ w. Wrote at w o o2 r) (sym whole) (wrote-both at x y o o1 a both-fit v o2 r u)
 
-pub ruleset naming = (name-start, name-room, name-more, name-end, name-full, left-long)
+-- NUMBERS
 
--- how long a name is
-pub length-start : (n : ℕ) → 0 + length (namedIn 13 n) ≡ length (named n)
-unfolding named
-length-start n = omega arith
+digits-one : (left n : ℕ) → (left ≡ 0 → ⊥) → n < 10 → writtenIn left n ≡ (48 + n) ∷ []
+unfolding writtenIn
+digits-one zero n z h = absurd (z refl)
+digits-one (suc k) n z h = rw (lt-ltb n 10 h, writtenIn)
 
-module _ (n m k v : ℕ) (inv : m + length (namedIn k v) ≡ length (named n)) where
-  pub length-more : 0 < k → (v ≡ 0 → ⊥) → (a j u : ℕ) → a ≡ m + 1 → j ≡ k - 1 → u ≡ v / 38 → a + length (namedIn j u) ≡ length (named n)
-  length-more g h a j u p q r = rw (p, q, r) (omega (arith, ap length (named-step k v g h)))
+digits-more : (left n : ℕ) → (left ≡ 0 → ⊥) → 10 ≤ n → writtenIn left n ≡ writtenIn (left - 1) (n / 10) ++ ((48 + n % 10) ∷ [])
+unfolding writtenIn
+digits-more zero n z h = absurd (z refl)
+digits-more (suc k) n z h = let y : suc k - 1 ≡ k = omega arith in rw (le-ltb n 10 h, writtenIn, y)
 
-  pub length-end : v ≡ 0 → m ≡ length (named n)
-  length-end e = omega (arith, ap length (named-none k v e))
+pub digits-below : (left : ℕ) → (left ≡ 0 → ⊥) → (k : ℕ) → k ≡ left - 1 → k < left
+digits-below left z k e = omega arith
 
-  pub length-full : k ≤ 0 → m ≡ length (named n)
-  length-full h = omega (arith, ap length (named-over k v h))
+module _ (n left at : ℕ) (o : List ℕ) (fits : at + length (writtenIn left n) ≤ length o) where
+  pub digits-none : left ≡ 0 → Wrote at (writtenIn left n) o o at
+  unfolding writtenIn
+  digits-none e = wrote-none at (writtenIn left n) o fits (rw e)
 
-pub ruleset lengths = (length-start, length-more, length-end, length-full)
+  module _ (some : left ≡ 0 → ⊥) where
+    pub digit-room : n < 10 → at + 1 ≤ length o
+    digit-room h = omega (arith, ap length (digits-one left n some h))
+
+    pub digit-done : n < 10 → (b : ℕ) → b ≡ 48 + n → (o1 : List ℕ) (r : ℕ) → Wrote at (b ∷ []) o o1 r → Wrote at (writtenIn left n) o o1 r
+    digit-done h b e o1 r v = rw (digits-one left n some h, ← e) v
+
+    module _ (high : 10 ≤ n) (m k : ℕ) (m-is : m ≡ n / 10) (k-is : k ≡ left - 1) where
+      front : writtenIn left n ≡ writtenIn k m ++ ((48 + n % 10) ∷ [])
+      front = rw (m-is, k-is) (digits-more left n some high)
+
+      pub digits-front : at + length (writtenIn k m) ≤ length o
+      digits-front = first-room at (writtenIn left n) (writtenIn k m) ((48 + n % 10) ∷ []) o front fits
+
+      module _ (o1 : List ℕ) (a : ℕ) (v : Wrote at (writtenIn k m) o o1 a) where
+        pub digits-last : a + 1 ≤ length o1
+        digits-last = second-room at (writtenIn left n) (writtenIn k m) ((48 + n % 10) ∷ []) o front fits o1 a v
+
+        pub digits-done : (b : ℕ) → b ≡ 48 + n % 10 → (o2 : List ℕ) (r : ℕ) → Wrote a (b ∷ []) o1 o2 r → Wrote at (writtenIn left n) o o2 r
+        digits-done b e o2 r u = both-written at (writtenIn left n) (writtenIn k m) ((48 + n % 10) ∷ []) o front fits o1 a v o2 r (rw e at u)
+
+pub ruleset digiting = (digits-below, digits-none, digit-room, digit-done, digits-front, digits-last, digits-done)
+
+-- a number and the byte behind it
+module _ (n b at : ℕ) (o : List ℕ) (fits : at + length (decimal n ++ (b ∷ [])) ≤ length o) where
+  pub number-room : at + length (writtenIn 10 n) ≤ length o
+  unfolding decimal
+  number-room = first-room at (decimal n ++ (b ∷ [])) (decimal n) (b ∷ []) o refl fits
+
+  module _ (o1 : List ℕ) (a : ℕ) (v : Wrote at (writtenIn 10 n) o o1 a) where
+    pub number-byte : a + 1 ≤ length o1
+    unfolding decimal
+    number-byte = second-room at (decimal n ++ (b ∷ [])) (decimal n) (b ∷ []) o refl fits o1 a v
+
+    pub number-done : (o2 : List ℕ) (r : ℕ) → Wrote a (b ∷ []) o1 o2 r → Wrote at (decimal n ++ (b ∷ [])) o o2 r
+    unfolding decimal
+    number-done o2 r u = both-written at (decimal n ++ (b ∷ [])) (decimal n) (b ∷ []) o refl fits o1 a v o2 r u
+
+pub ruleset numbering = (number-room, number-byte, number-done)
 
 -- COUNTS
-
-decimal-one : (n : ℕ) → n < 10 → decimal n ≡ (48 + n) ∷ []
-unfolding decimal writtenIn
-decimal-one n h = rw (lt-ltb n 10 h, writtenIn)
 
 decimal-two : (n : ℕ) → 10 ≤ n → n < 100 → decimal n ≡ ((48 + n / 10) ∷ []) ++ ((48 + n % 10) ∷ [])
 unfolding decimal writtenIn
@@ -199,28 +234,7 @@ count-one n h = sym (ap length (decimal-one n h))
 pub count-two : (n : ℕ) → 10 ≤ n → n < 100 → 2 ≡ length (decimal n)
 count-two n h g = sym (ap length (decimal-two n h g))
 
-module _ (n at : ℕ) (o : List ℕ) (few : n < 100) (fits : at + length (decimal n) ≤ length o) where
-  pub count-room : n < 10 → at + 1 ≤ length o
-  count-room h = omega (arith, ap length (decimal-one n h))
-
-  pub count-done : n < 10 → (b : ℕ) → b ≡ 48 + n → (o1 : List ℕ) (r : ℕ) → Wrote at (b ∷ []) o o1 r → Wrote at (decimal n) o o1 r
-  count-done h b e o1 r y = rw (decimal-one n h, ← e) y
-
-  module _ (two : 10 ≤ n) where
-    wide : at + length (((48 + n / 10) ∷ []) ++ ((48 + n % 10) ∷ [])) ≤ length o
-    wide = rw (decimal-two n two few) at fits
-
-    pub count-first : at + 1 ≤ length o
-    count-first = omega (arith, wide)
-
-    module _ (b : ℕ) (e : b ≡ 48 + n / 10) (o1 : List ℕ) (r : ℕ) (y : Wrote at (b ∷ []) o o1 r) where
-      pub count-second : r + 1 ≤ length o1
-      count-second = wrote-room at ((48 + n / 10) ∷ []) ((48 + n % 10) ∷ []) o o1 r wide (rw e at y)
-
-      pub count-both : (d : ℕ) → d ≡ 48 + n % 10 → (o2 : List ℕ) (q : ℕ) → Wrote r (d ∷ []) o1 o2 q → Wrote at (decimal n) o o2 q
-      count-both d f o2 q z = rw (decimal-two n two few) (wrote-both at ((48 + n / 10) ∷ []) ((48 + n % 10) ∷ []) o o1 r wide (rw e at y) o2 q (rw f at z))
-
-pub ruleset counting = (count-one, count-two, count-room, count-done, count-first, count-second, count-both)
+pub ruleset counting = (count-one, count-two)
 
 -- LINES
 
@@ -317,53 +331,49 @@ module _ (v o : List ℕ) (fits : length (line (text "case") v) ≤ length o) wh
 pub ruleset casing = (case-room, case-value, case-feed, case-done)
 
 -- `end=`
-module _ (at : ℕ) (v o : List ℕ) (fits : at + length (line (text "end") v) ≤ length o) where
-  end-fits : at + length (text "end=" ++ v ++ text "\n") ≤ length o
+module _ (at n : ℕ) (o : List ℕ) (fits : at + length (line (text "end") (decimal n)) ≤ length o) where
+  end-whole : line (text "end") (decimal n) ≡ text "end=" ++ (decimal n ++ (10 ∷ []))
   unfolding line
-  end-fits = fits
+  end-whole = append-assoc (text "end=") (decimal n) (10 ∷ [])
 
   pub end-room : at + 4 ≤ length o
-  end-room = keyed-room at (text "end=") v o end-fits
+  end-room = first-room at (line (text "end") (decimal n)) (text "end=") (decimal n ++ (10 ∷ [])) o end-whole fits
 
   module _ (o1 : List ℕ) (a : ℕ) (y : Wrote at (text "end=") o o1 a) where
-    pub end-value : a + length v ≤ length o1
-    end-value = keyed-value at (text "end=") v o end-fits o1 a y
+    pub end-number : a + length (decimal n ++ (10 ∷ [])) ≤ length o1
+    end-number = second-room at (line (text "end") (decimal n)) (text "end=") (decimal n ++ (10 ∷ [])) o end-whole fits o1 a y
 
-    module _ (o2 : List ℕ) (b : ℕ) (z : Wrote a v o1 o2 b) where
-      pub end-feed : b + 1 ≤ length o2
-      end-feed = keyed-feed at (text "end=") v o end-fits o1 a y o2 b z
+    pub end-done : (o2 : List ℕ) (r : ℕ) → Wrote a (decimal n ++ (10 ∷ [])) o1 o2 r → Wrote at (line (text "end") (decimal n)) o o2 r
+    end-done o2 r u = both-written at (line (text "end") (decimal n)) (text "end=") (decimal n ++ (10 ∷ [])) o end-whole fits o1 a y o2 r u
 
-      pub end-done : (o3 : List ℕ) (c : ℕ) → Wrote b (10 ∷ []) o2 o3 c → Wrote at (line (text "end") v) o o3 c
-      unfolding line
-      end-done o3 c u = keyed-done at (text "end=") v o end-fits o1 a y o2 b z o3 c u
-
-pub ruleset ending = (end-room, end-value, end-feed, end-done)
+pub ruleset ending = (end-room, end-number, end-done)
 
 -- the line of a status
-module _ (n m : ℕ) where
+module _ (n : Kept) (m : ℕ) where
   mark-yes : m ≡ 2 → mark (isYes m) ≡ text "yes"
   mark-yes e = rw (eq-eqb m 2 e)
 
   mark-no : (m ≡ 2 → ⊥) → mark (isYes m) ≡ text "no"
   mark-no e = rw (ne-eqb m 2 e)
 
-  module _ (at : ℕ) (o : List ℕ) (fits : at + length (line (named n) (mark (isYes m))) ≤ length o) where
-    pub yes-room : m ≡ 2 → at + length (line (named n) (text "yes")) ≤ length o
+  module _ (at : ℕ) (o : List ℕ) (fits : at + length (line (nameOf n) (mark (isYes m))) ≤ length o) where
+    pub yes-room : m ≡ 2 → at + length (line (nameOf n) (text "yes")) ≤ length o
     yes-room e = rw (← mark-yes e) fits
 
-    pub no-room : (m ≡ 2 → ⊥) → at + length (line (named n) (text "no")) ≤ length o
+    pub no-room : (m ≡ 2 → ⊥) → at + length (line (nameOf n) (text "no")) ≤ length o
     no-room e = rw (← mark-no e) fits
 
-  pub yes-done : (at : ℕ) (o o1 : List ℕ) (r : ℕ) → m ≡ 2 → Wrote at (line (named n) (text "yes")) o o1 r → Wrote at (line (named n) (mark (isYes m))) o o1 r
+  pub yes-done : (at : ℕ) (o o1 : List ℕ) (r : ℕ) → m ≡ 2 → Wrote at (line (nameOf n) (text "yes")) o o1 r → Wrote at (line (nameOf n) (mark (isYes m))) o o1 r
   yes-done at o o1 r e y = rw (mark-yes e) y
 
-  pub no-done : (at : ℕ) (o o1 : List ℕ) (r : ℕ) → (m ≡ 2 → ⊥) → Wrote at (line (named n) (text "no")) o o1 r → Wrote at (line (named n) (mark (isYes m))) o o1 r
+  pub no-done : (at : ℕ) (o o1 : List ℕ) (r : ℕ) → (m ≡ 2 → ⊥) → Wrote at (line (nameOf n) (text "no")) o o1 r
+      → Wrote at (line (nameOf n) (mark (isYes m))) o o1 r
   no-done at o o1 r e y = rw (mark-no e) y
 
-  pub yes-long : (k : ℕ) → k ≡ length (named n) → m ≡ 2 → (r : ℕ) → r ≡ k + 5 → r ≡ length (line (named n) (mark (isYes m)))
-  yes-long k h e r z = rw (mark-yes e) (omega (arith, line-length (named n) (text "yes")))
+  pub yes-long : (k : ℕ) → k ≡ length (nameOf n) → m ≡ 2 → (r : ℕ) → r ≡ k + 5 → r ≡ length (line (nameOf n) (mark (isYes m)))
+  yes-long k h e r z = rw (mark-yes e) (omega (arith, line-length (nameOf n) (text "yes")))
 
-  pub no-long : (k : ℕ) → k ≡ length (named n) → (m ≡ 2 → ⊥) → (r : ℕ) → r ≡ k + 4 → r ≡ length (line (named n) (mark (isYes m)))
-  no-long k h e r z = rw (mark-no e) (omega (arith, line-length (named n) (text "no")))
+  pub no-long : (k : ℕ) → k ≡ length (nameOf n) → (m ≡ 2 → ⊥) → (r : ℕ) → r ≡ k + 4 → r ≡ length (line (nameOf n) (mark (isYes m)))
+  no-long k h e r z = rw (mark-no e) (omega (arith, line-length (nameOf n) (text "no")))
 
 pub ruleset marking = (yes-room, no-room, yes-done, no-done, yes-long, no-long)

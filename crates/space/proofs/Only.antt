@@ -1,19 +1,16 @@
 -- No second answer fits: the contracts determine the length of a text that is measured, and where a text that is put ends, with the lent space.
 use denote.Ref.{now}
 use Rattle.theory.specs.Determined.{Determines, Settles, only}
-use Rattle.space.proofs.name_len.Reads as NameLen
 use Rattle.space.proofs.count_len.Reads as CountLen
 use Rattle.space.proofs.mark_len.Reads as MarkLen
 use Rattle.space.proofs.put_byte.Reads as PutByte
 use Rattle.space.proofs.put_text.Reads as PutText
 use Rattle.space.proofs.put_name.Reads as PutName
+use Rattle.space.proofs.put_number.Reads as PutNumber
 use Rattle.space.proofs.line_at.Reads as LineAt
 use Rattle.space.proofs.mark_at.Reads as MarkAt
 use Rattle.space.proofs.put_case.Reads as PutCase
 use Rattle.space.proofs.put_end.Reads as PutEnd
-
-pub name-len-only : Determines NameLen.Learnt
-name-len-only κs a r q s t h g = only (h .0) (g .0)
 
 pub count-len-only : Determines CountLen.Learnt
 count-len-only κs a r q s t h g = only (h .0) (g .0)
@@ -39,6 +36,12 @@ put-name-only κs a r q s t h g = only (h .next) (g .next)
 
 pub put-name-space-only : Settles PutName.Learnt (λ κs r s. now (s .0))
 put-name-space-only κs a r q s t h g = only (h .space) (g .space)
+
+pub put-number-only : Determines PutNumber.Learnt
+put-number-only κs a r q s t h g = only (h .next) (g .next)
+
+pub put-number-space-only : Settles PutNumber.Learnt (λ κs r s. now (s .0))
+put-number-space-only κs a r q s t h g = only (h .space) (g .space)
 
 pub line-at-only : Determines LineAt.Learnt
 line-at-only κs a r q s t h g = only (h .next) (g .next)

@@ -1,9 +1,7 @@
 -- Texts at a place of lent space.
 use Prim.Native.Nat.{ℕ, _+_}
 use mathlib.Core.Path.{_≡_}
-use mathlib.Core.Bool.{Bool}
 use mathlib.Core.List.{List, _++_}
-use lib.Dec.{eqb}
 use lib.ListN.{length, take, drop}
 
 -- w over o from a place on; all else stays
@@ -14,7 +12,3 @@ over a w o = take a o ++ (w ++ drop (a + length w) o)
 pub record Wrote (at : ℕ) (w before after : List ℕ) (r : ℕ) : Type 0 where
   pub space : after ≡ over at w before
   pub next : r ≡ at + length w
-
--- a mark is yes
-abbrev pub isYes : ℕ → Bool
-isYes m = eqb m 2

@@ -1,13 +1,15 @@
-// Names, counts and lines put into lent space, and how long they are.
+// Texts, names, numbers and lines put into lent space, and how long they are.
 ghost use mathlib.Core.Path.{_≡_};
-ghost use mathlib.Core.List.{[], _∷_};
+ghost use mathlib.Core.List.{[], _∷_, _++_};
 ghost use Prim.Native.Nat.{_≤_, _<_, _+_};
 ghost use lib.ListN.{length};
 ghost use Rattle.meaning.specs.Text.{text};
-ghost use Rattle.meaning.specs.Number.{decimal};
+ghost use Rattle.meaning.specs.Number.{decimal, writtenIn};
 ghost use Rattle.meaning.specs.Write.{line, mark};
-ghost use Rattle.text.specs.Packed.{byteOf, named};
-ghost use Rattle.space.specs.Answers.{isYes, Wrote};
+ghost use Rattle.name.specs.Names.{nameOf, spellRoom};
+ghost use Rattle.marks.specs.Codes.{isYes};
+ghost use Rattle.space.specs.Answers.{Wrote};
+use name::Name;
 
 // Puts a byte at a place of `out`, and tells the place behind it.
 pub fn put_byte(out: &mut [u8], at: usize, b: u8) -> usize
@@ -32,72 +34,42 @@ pub fn put_text(out: &mut [u8], at: usize, w: &[u8]) -> usize
     to
 }
 
-// The byte of a symbol of a packed name.
-fn symbol_byte(d: u64) -> u8
-    ensures { λ r. ⌜ r ≡ byteOf d ⌝ }
+// Puts a kept name at a place of `out`, and tells the place behind it.
+pub fn put_name(out: &mut [u8], at: usize, w: Name) -> usize
+    requires { ⌜ at + length (nameOf w) ≤ length (now out) ⌝ }
+    ensures { λ r. ⌜ Wrote at (nameOf w) (now (out .entry)) (now (out .exit)) r ⌝ }
 {
-    if d == 0 {
-        return 0;
-    }
-    if d <= 26 {
-        return (d + 96) as u8;
-    }
-    if d <= 36 {
-        return (d + 21) as u8;
-    }
-    0
+    let p = name::spell(w);
+    let n = p.length;
+    let bytes = p.bytes;
+    put_text(out, at, &bytes[..n])
 }
 
-// Puts the name for which a number stands.
-pub fn put_name(out: &mut [u8], at: usize, name: u64) -> usize
-    requires { ⌜ at + length (named name) ≤ length (now out) ⌝ }
-    ensures { λ r. ⌜ Wrote at (named name) (now (out .entry)) (now (out .exit)) r ⌝ }
+// Puts a number of at most `left` digits: those before the last one first.
+fn put_digits(out: &mut [u8], at: usize, n: u64, left: usize) -> usize
+    requires { ⌜ at + length (writtenIn left n) ≤ length (now out) ⌝ }
+    ensures { λ r. ⌜ Wrote at (writtenIn left n) (now (out .entry)) (now (out .exit)) r ⌝ }
 {
-    let mut to = at;
-    let mut v = name;
-    let mut left: usize = 13;
-    while 0 < left {
-        if v == 0 {
-            return to;
-        }
-        to = put_byte(out, to, symbol_byte(v % 38));
-        v = v / 38;
-        left -= 1;
+    if left == 0 {
+        return at;
     }
-    to
-}
-
-// How long that name is.
-pub fn name_len(name: u64) -> usize
-    ensures { λ r. ⌜ (r ≡ length (named name)) × (r ≤ 13) ⌝ }
-{
-    let mut n = 0;
-    let mut v = name;
-    let mut left: usize = 13;
-    while 0 < left {
-        if v == 0 {
-            return n;
-        }
-        n += 1;
-        v = v / 38;
-        left -= 1;
-    }
-    n
-}
-
-// Puts a count of at most two digits.
-fn put_count(out: &mut [u8], at: usize, n: usize) -> usize
-    requires { ⌜ (n < 100) × (at + length (decimal n) ≤ length (now out)) ⌝ }
-    ensures { λ r. ⌜ Wrote at (decimal n) (now (out .entry)) (now (out .exit)) r ⌝ }
-{
     if n < 10 {
         return put_byte(out, at, 48 + n as u8);
     }
-    let a = put_byte(out, at, 48 + (n / 10) as u8);
+    let a = put_digits(out, at, n / 10, left - 1);
     put_byte(out, a, 48 + (n % 10) as u8)
 }
 
-// How many digits it has.
+// Puts a number and the byte that ends it at a place of `out`, and tells the place behind it.
+pub fn put_number(out: &mut [u8], at: usize, n: u64, b: u8) -> usize
+    requires { ⌜ at + length (decimal n ++ (b ∷ [])) ≤ length (now out) ⌝ }
+    ensures { λ r. ⌜ Wrote at (decimal n ++ (b ∷ [])) (now (out .entry)) (now (out .exit)) r ⌝ }
+{
+    let a = put_digits(out, at, n, 10);
+    put_byte(out, a, b)
+}
+
+// How many digits a count has, which is one or two.
 pub fn count_len(n: usize) -> usize
     requires { ⌜ n < 100 ⌝ }
     ensures { λ r. ⌜ (r ≡ length (decimal n)) × (r ≤ 2) ⌝ }
@@ -109,63 +81,62 @@ pub fn count_len(n: usize) -> usize
 }
 
 // Puts the line of a name and a value at the start of `out`.
-fn put_line(out: &mut [u8], name: u64, v: &[u8]) -> usize
-    requires { ⌜ length (line (named name) (now v)) ≤ length (now out) ⌝ }
-    ensures { λ r. ⌜ Wrote 0 (line (named name) (now (v .entry))) (now (out .entry)) (now (out .exit)) r ⌝ }
+fn put_line(out: &mut [u8], w: Name, v: &[u8]) -> usize
+    requires { ⌜ length (line (nameOf w) (now v)) ≤ length (now out) ⌝ }
+    ensures { λ r. ⌜ Wrote 0 (line (nameOf w) (now (v .entry))) (now (out .entry)) (now (out .exit)) r ⌝ }
 {
-    let a = put_name(out, 0, name);
+    let a = put_name(out, 0, w);
     let b = put_byte(out, a, b'=');
     let c = put_text(out, b, v);
     put_byte(out, c, b'\n')
 }
 
-// The same at the cursor: the rest of the space from there on is lent on.
-pub fn line_at(out: &mut [u8], at: usize, name: u64, v: &[u8]) -> usize
-    requires { ⌜ at + length (line (named name) (now v)) ≤ length (now out) ⌝ }
-    ensures { λ r. ⌜ Wrote at (line (named name) (now (v .entry))) (now (out .entry)) (now (out .exit)) r ⌝ }
+// Puts the line of a name and a value at a place of `out`, and tells the place behind it: the rest of the space from there on is lent on.
+pub fn line_at(out: &mut [u8], at: usize, w: Name, v: &[u8]) -> usize
+    requires { ⌜ at + length (line (nameOf w) (now v)) ≤ length (now out) ⌝ }
+    ensures { λ r. ⌜ Wrote at (line (nameOf w) (now (v .entry))) (now (out .entry)) (now (out .exit)) r ⌝ }
 {
-    let k = put_line(&mut out[at..], name, v);
+    let k = put_line(&mut out[at..], w, v);
     at + k
 }
 
-// The line of a status.
-pub fn mark_at(out: &mut [u8], at: usize, name: u64, m: u8) -> usize
-    requires { ⌜ at + length (line (named name) (mark (isYes m))) ≤ length (now out) ⌝ }
-    ensures { λ r. ⌜ Wrote at (line (named name) (mark (isYes m))) (now (out .entry)) (now (out .exit)) r ⌝ }
+// Puts the line of a status at a place of `out`, and tells the place behind it.
+pub fn mark_at(out: &mut [u8], at: usize, w: Name, m: u8) -> usize
+    requires { ⌜ at + length (line (nameOf w) (mark (isYes m))) ≤ length (now out) ⌝ }
+    ensures { λ r. ⌜ Wrote at (line (nameOf w) (mark (isYes m))) (now (out .entry)) (now (out .exit)) r ⌝ }
 {
-    if m == 2 {
-        return line_at(out, at, name, b"yes");
+    if m == marks::YES {
+        return line_at(out, at, w, b"yes");
     }
-    line_at(out, at, name, b"no")
+    line_at(out, at, w, b"no")
 }
 
-// How long it is.
-pub fn mark_len(name: u64, m: u8) -> usize
-    ensures { λ r. ⌜ (r ≡ length (line (named name) (mark (isYes m)))) × (r ≤ 18) ⌝ }
+// How long the line of a status is.
+pub fn mark_len(w: Name, m: u8) -> usize
+    ensures { λ r. ⌜ (r ≡ length (line (nameOf w) (mark (isYes m)))) × (r ≤ spellRoom + 5) ⌝ }
 {
-    let n = name_len(name);
-    if m == 2 {
+    let n = name::name_len(w);
+    if m == marks::YES {
         return n + 5;
     }
     n + 4
 }
 
-// The first line.
-pub fn put_case(out: &mut [u8], model: u64) -> usize
-    requires { ⌜ length (line (text "case") (named model)) ≤ length (now out) ⌝ }
-    ensures { λ r. ⌜ Wrote 0 (line (text "case") (named model)) (now (out .entry)) (now (out .exit)) r ⌝ }
+// Puts the first line of a card, `case=` and the model's name, at the start of `out`.
+pub fn put_case(out: &mut [u8], model: Name) -> usize
+    requires { ⌜ length (line (text "case") (nameOf model)) ≤ length (now out) ⌝ }
+    ensures { λ r. ⌜ Wrote 0 (line (text "case") (nameOf model)) (now (out .entry)) (now (out .exit)) r ⌝ }
 {
     let a = put_text(out, 0, b"case=");
     let b = put_name(out, a, model);
     put_byte(out, b, b'\n')
 }
 
-// The last line.
+// Puts the last line of a card, `end=` and its count, at a place of `out`.
 pub fn put_end(out: &mut [u8], at: usize, n: usize) -> usize
-    requires { ⌜ (n < 100) × (at + length (line (text "end") (decimal n)) ≤ length (now out)) ⌝ }
+    requires { ⌜ at + length (line (text "end") (decimal n)) ≤ length (now out) ⌝ }
     ensures { λ r. ⌜ Wrote at (line (text "end") (decimal n)) (now (out .entry)) (now (out .exit)) r ⌝ }
 {
     let a = put_text(out, at, b"end=");
-    let b = put_count(out, a, n);
-    put_byte(out, b, b'\n')
+    put_number(out, a, n as u64, b'\n')
 }

@@ -1,22 +1,22 @@
--- Runs of bytes, fixed texts and tables, in the form in which the functions' answers need them: the premises are what is known at a
+-- Runs of bytes and fixed texts, in the form in which the functions' answers need them: the premises are what is known at a
 -- place, the conclusion is what is asked there.
-use mathlib.Core.Path.{_≡_, refl, ap, sym, _∙_}
+use mathlib.Core.Path.{_≡_, sym, _∙_}
 use mathlib.Core.Bool.{Bool, true, false, not}
-use mathlib.Core.List.{List, [], _∷_}
+use mathlib.Core.List.{List, []}
 use Prim.Native.Nat.{ℕ, suc, _+_, _-_, _<_, _≤_}
 use native.Mathlib.Omega.{arith}
-use native.Mathlib.Nat.{sub-eq-zero-of-le}
 use native.Mathlib.Numerals.{add-one}
 use borrow.Author.Tests.{eq-eqb, ne-eqb, not-true, not-false}
-use lib.Dec.{eqb}
 use lib.ListN.{length, drop, take, getD, drop-of-length-le, length-drop}
-use lib.Seq.{drop-cons, take-all, take-nil}
+use lib.Seq.{drop-cons, take-all, length-take-le}
 use Rattle.meaning.specs.Text.{run, begins}
-use Rattle.theory.specs.Names.{run-more, run-halt}
-use Rattle.theory.specs.Told.{run-fits}
-use Rattle.text.specs.declared.Found.{Found}
-use Rattle.text.specs.declared.Found.the-variants as F
-use Rattle.text.specs.Answers.{foundIn, further}
+use Rattle.meaning.specs.Refusal.{LINE}
+use Rattle.meaning.specs.Reading.{due}
+use Rattle.theory.specs.Papers.Names.{run-more, run-halt}
+use Rattle.theory.specs.Reading.Told.{run-fits, took, begins-fits}
+use Rattle.theory.specs.Reading.Fixed.{due-ended, due-here, due-not}
+use Rattle.text.specs.declared.Bytes.the-variants as B
+use Rattle.text.specs.Answers.{asBytes}
 
 -- THE LONGEST RUN: a loop at the cursor i
 module _ (p : ℕ → Bool) (s : List ℕ) (i : ℕ) where
@@ -29,6 +29,9 @@ module _ (p : ℕ → Bool) (s : List ℕ) (i : ℕ) where
 
   pub run-at-end : run p s ≡ i + run p (drop i s) → length s ≤ i → i ≡ run p s
   run-at-end v h = omega (arith, run-fits p (drop i s), length-drop i s)
+
+pub length-run : (p : ℕ → Bool) (s : List ℕ) (n : ℕ) → n ≡ run p s → length (take n s) ≡ n
+length-run p s n is = length-take-le n s (omega (arith, run-fits p s))
 
 pub ruleset running = (run-at-more, run-at-stop, run-at-end)
 
@@ -61,70 +64,14 @@ rest-none s a h = sym (drop-of-length-le s {i = a} (omega arith))
 
 pub ruleset resting = (rest-some, rest-none)
 
--- a place found k places further on
-unfoldable pub shifted : ℕ → Found → Found
-shifted k (F.At i) = F.At (k + i)
-shifted k F.Nothing = F.Nothing
+-- the returns of due_text
+pub text-ended : (t k : List ℕ) (n : ℕ) → length t ≡ 0 → B.Refused LINE ≡ asBytes t (due n k 0 t)
+text-ended t k n h = rw (due-ended n k 0 t h)
 
-pub shifted-suc : (k : ℕ) (f : Found) → shifted k (further f) ≡ shifted (suc k) f
-unfolding shifted
-shifted-suc k (F.At i) = ap (λ n. F.At n) (omega arith)
-shifted-suc k F.Nothing = refl
+pub text-other : (t k : List ℕ) (n : ℕ) → (length t ≡ 0 → ⊥) → (b : Bool) → b ≡ begins k t → not b ≡ true → B.Refused n ≡ asBytes t (due n k 0 t)
+text-other t k n h b e q = rw (due-not n k 0 t h b e (not-true b q))
 
-pub found-here : (w v : ℕ) (vs : List ℕ) → v ≡ w → foundIn w (v ∷ vs) ≡ F.At 0
-unfolding foundIn
-found-here w v vs e = rw (eq-eqb v w e, foundIn)
+pub text-due : (t k : List ℕ) (n : ℕ) → (length t ≡ 0 → ⊥) → (b : Bool) → b ≡ begins k t → not b ≡ false → B.Read (length k) ≡ asBytes t (due n k 0 t)
+text-due t k n h b e q = rw (due-here n k 0 t h b e (not-false b q), took t (length k) (begins-fits k t (sym e ∙ not-false b q)))
 
-pub found-later : (w v : ℕ) (vs : List ℕ) → (v ≡ w → ⊥) → foundIn w (v ∷ vs) ≡ further (foundIn w vs)
-unfolding foundIn
-found-later w v vs e = rw (ne-eqb v w e, foundIn)
-
--- the search of a table at the cursor i
-pub find-start : (from : ℕ) (f : Found) → f ≡ shifted (from - from) f
-unfolding shifted
-find-start from (F.At i) = ap (λ n. F.At n) (omega arith)
-find-start from F.Nothing = refl
-
-module _ (w : ℕ) (l : List ℕ) (from to i : ℕ)
-    (v : foundIn w (take (to - from) (drop from l)) ≡ shifted (i - from) (foundIn w (take (to - i) (drop i l)))) where
-  pub find-over : to ≤ i → F.Nothing ≡ foundIn w (take (to - from) (drop from l))
-  unfolding foundIn shifted
-  find-over h = sym (v ∙ rw (sub-eq-zero-of-le h))
-
-  pub find-none : length l ≤ i → F.Nothing ≡ foundIn w (take (to - from) (drop from l))
-  unfolding foundIn shifted
-  find-none h = sym (v ∙ rw (drop-of-length-le l h, take-nil))
-
-  module _ (more : i < to) (in-table : i < length l) where
-    left-is : take (to - i) (drop i l) ≡ getD l i 0 ∷ take (to - (i + 1)) (drop (i + 1) l)
-    left-is =
-        let m : to - i ≡ suc (to - (i + 1)) = omega arith in
-        rw (m, add-one, drop-cons l i 0)
-
-    pub find-here : getD l i 0 ≡ w → (k : ℕ) → k ≡ i - from → F.At k ≡ foundIn w (take (to - from) (drop from l))
-    unfolding shifted
-    find-here e k z = sym (v ∙ rw (left-is, found-here w _ _ e) (ap (λ n. F.At n) (omega arith)))
-
-    pub find-more : from ≤ i → (getD l i 0 ≡ w → ⊥)
-        → foundIn w (take (to - from) (drop from l)) ≡ shifted (i + 1 - from) (foundIn w (take (to - (i + 1)) (drop (i + 1) l)))
-    find-more h e = v ∙ rw (left-is, found-later w _ _ e) (shifted-suc (i - from) _ ∙ ap (λ k. shifted k (foundIn w (take (to - (i + 1)) (drop (i + 1) l)))) (omega arith))
-
-pub ruleset finding = (find-start, find-over, find-none, find-here, find-more)
-
-pub found-within : (w : ℕ) (vs : List ℕ) (i : ℕ) → foundIn w vs ≡ F.At i → i < length vs
-unfolding foundIn
-found-within w [] i e =
-    let z : _≡_ {A = ℕ} 0 1 = cc in
-    absurd (omega arith)
-found-within w (v ∷ vs) i e = go (eqb v w) (foundIn w vs) e (found-within w vs)
-  where
-    go : (b : Bool) (f : Found) → elim b [ true ↦ F.At 0 | false ↦ further f ] ≡ F.At i → ((j : ℕ) → f ≡ F.At j → j < length vs) → i < suc (length vs)
-    go true f e ih =
-        let z : 0 ≡ i = cc in
-        omega arith
-    go false F.Nothing e ih =
-        let z : _≡_ {A = ℕ} 0 1 = cc in
-        absurd (omega arith)
-    go false (F.At j) e ih =
-        let z : suc j ≡ i = cc in
-        omega (arith, ih j refl)
+pub ruleset due-text-returns = (text-ended, text-other, text-due)

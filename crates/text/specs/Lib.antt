@@ -1,3 +1,2 @@
--- Names in one number, and what the code answers for what the meaning reads:
-pub mod Packed
+-- What the code answers for what the meaning reads:
 pub mod Answers

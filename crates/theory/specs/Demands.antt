@@ -1,11 +1,12 @@
 -- What document 01 demands and what the requests behind it ask, for all texts: each in its own words, each proved by a citation.
 use Prim.Native.Nat.{ℕ, _*_, _≤_, _<_}
-use mathlib.Core.Path.{_≡_, refl, sym, _∙_, subst}
+use mathlib.Core.Path.{_≡_, sym, _∙_, subst}
 use mathlib.Core.Bool.{Bool, true, false}
 use mathlib.Core.List.{List, [], _∷_, map}
 use mathlib.Core.Option.{some}
 use mathlib.Core.Logic.{_↔_}
 use lib.ListN.{length, getD}
+use Rattle.meaning.specs.Text.{In}
 use Rattle.meaning.specs.Kleene.{true₃, known₃}
 use Rattle.meaning.specs.Refusal.{taken, refused, CYCLE, MANY}
 use Rattle.meaning.specs.Limits.{sheetBytes, partLimit}
@@ -16,19 +17,20 @@ use Rattle.meaning.specs.Sheet.{Sheet}
 use Rattle.meaning.specs.ReadSheet.{sheet}
 use Rattle.meaning.specs.Card.{is, readCard}
 use Rattle.meaning.specs.Graph.{Cycle, Acyclic, Inside, TestingOrder}
-use Rattle.meaning.specs.Tests.{nodes, Test, tests}
-use Rattle.meaning.specs.Dependency.{predecessors}
+use Rattle.meaning.specs.Tests.{nodes, down, Test, tests}
+use Rattle.meaning.specs.Dependency.{sources, predecessors}
 use Rattle.meaning.specs.Step.{Moment, putIn, Meets, holds, leadsTo, pattern}
 use Rattle.meaning.specs.Outlook.{IsOutlook, filledWith, parts, patterns}
 use Rattle.meaning.specs.Why.{Reason, coded, linesFor, changed, IsWhy}
 use Rattle.meaning.specs.Doors.{Accepted, readSheet, Case, readCase, next, outlook, reasonsIn, why, stepAnswer, outlookAnswer, whyAnswer, replied, written, stepReply, stepSpace, outlookReply, outlookSpace}
-use Rattle.theory.specs.Next.{one-next}
-use Rattle.theory.specs.Readers.{taken-same}
-use Rattle.theory.specs.Papers.{sheet-holds, case-holds}
-use Rattle.theory.specs.Whys.{about, why-same}
-use Rattle.theory.specs.Cases.{at, after, told-exactly, holds-true, case-meets, case-only, case-every, case-again, case-list, filled-meets, filled-only, outlook-told, outlook-listed, outlook-same, Known, outlook-known, case-why, case-one, case-lines, case-few}
-use Rattle.theory.specs.Numbers.{step-tells, outlook-tells, why-tells}
-use Rattle.theory.specs.Requests.{step-papers, outlook-papers}
+use Rattle.theory.specs.Step.Edges.{home-cycle}
+use Rattle.theory.specs.Step.OneAnswer.{one-next}
+use Rattle.theory.specs.Reading.Readers.{taken-same}
+use Rattle.theory.specs.Papers.Case.{sheet-holds, case-holds}
+use Rattle.theory.specs.Why.All.{about, why-same}
+use Rattle.theory.specs.Requests.Cases.{at, after, told-exactly, holds-true, case-meets, case-only, case-every, case-again, case-list, filled-meets, filled-only, outlook-told, outlook-listed, outlook-same, Known, outlook-known, case-why, case-one, case-lines, case-few}
+use Rattle.theory.specs.Requests.Numbers.{step-tells, outlook-tells, why-tells}
+use Rattle.theory.specs.Requests.Taken.{step-papers, outlook-papers}
 
 -- DEMAND 1. "It takes any sheet, card and event line and comes to an end": the definitions are functions of any lists of bytes.
 -- "What it can't take it refuses with a fixed number, the paper and the line, and the lent space is then untouched."
@@ -51,7 +53,8 @@ pub outlook-numbers : (s c e : List ℕ) (room n p l : ℕ) → outlookAnswer s 
 outlook-numbers s c e room n p l q = outlook-tells s c e room .told n p l q
 
 -- number, paper and line are those that the reading of the papers tells
-pub papers-told : (s c e : List ℕ) (room n p l : ℕ) → readCase s c e ≡ refused n p l → (stepAnswer s c e room ≡ refused n p l) × (outlookAnswer s c e room ≡ refused n p l)
+pub papers-told : (s c e : List ℕ) (room n p l : ℕ) → readCase s c e ≡ refused n p l
+    → (stepAnswer s c e room ≡ refused n p l) × (outlookAnswer s c e room ≡ refused n p l)
 papers-told s c e room n p l q = (step-papers s c e room n p l q, outlook-papers s c e room n p l q)
 
 -- DEMAND 2. "A step is right by the published kernel rules."
@@ -60,9 +63,15 @@ papers-told s c e room n p l q = (step-papers s c e room n p l q, outlook-papers
 pub cycle-told : (s : List ℕ) (sh : Sheet) → paper 1 sheetBytes sheet s ≡ taken sh → (readSheet s ≡ refused CYCLE 1 0) ↔ Cycle (predecessors (tests sh))
 cycle-told = told-exactly
 
+-- "So a mile that has a `+` rule can't close its own home stage": a test with home p, and one of `-p` to which an edge leads from its node, make a cycle.
+pub home-closed : (ts : List Test) (p : ℕ) (t u : Test) → In t ts → In u ts → t .home ≡ some p → u .node ≡ down p → In (t .node) (sources u)
+    → Cycle (predecessors ts)
+home-closed = home-cycle
+
 -- For any list of tests whose graph has no cycle there is one next card, whatever form of sheet the tests come from.
 pub next-one : (ts : List Test) (m : Moment) → Inside (length (m .before) * 2) (predecessors ts) → Acyclic (predecessors ts)
-    → (side : List Bool) × Meets ts m side × ((c : List Bool) → Meets ts m c → c ≡ side) × ((o : List ℕ) → TestingOrder (length (m .before) * 2) (predecessors ts) o → leadsTo ts m o ≡ side)
+    → (side : List Bool) × Meets ts m side × ((c : List Bool) → Meets ts m c → c ≡ side) ×
+    ((o : List ℕ) → TestingOrder (length (m .before) * 2) (predecessors ts) o → leadsTo ts m o ≡ side)
 next-one = one-next
 
 -- "The card after a step meets the rules, no other card does, and every testing order that the graph allows leads to it."
@@ -115,13 +124,15 @@ outlook-alone k l o h = taken-same l (pattern (after k) ∷ []) (sym o ∙ outlo
 
 -- "Each filling has one next pattern": some side meets the rules, and no other does
 pub filling-one : (s c e : List ℕ) (k : Case) → readCase s c e ≡ taken k → (vs : List Value)
-    → (side : List Bool) × Meets (tests (k .sheet)) (filledWith (at k) vs) side × ((b : List Bool) → Meets (tests (k .sheet)) (filledWith (at k) vs) b → b ≡ side)
+    → (side : List Bool) × Meets (tests (k .sheet)) (filledWith (at k) vs) side ×
+    ((b : List Bool) → Meets (tests (k .sheet)) (filledWith (at k) vs) b → b ≡ side)
 filling-one s c e k q vs =
     let p = case-holds s c e k q in
     let meets = filled-meets k p vs in
     (leadsTo (tests (k .sheet)) (filledWith (at k) vs) (k .order), meets, λ b h. filled-only k p vs b _ h meets)
 
--- REQUEST T-01. "For each status that changed, .. the first rule line that held, or, where no line held, the parent whose closing closed it. For each that did not, every rule line for the change it could have made, with the first thing that stopped it"
+-- REQUEST T-01. "For each status that changed, .. the first rule line that held, or, where no line held, the parent whose closing closed it. For each that did
+-- not, every rule line for the change it could have made, with the first thing that stopped it"
 
 pub why-right : (s c e : List ℕ) (k : Case) → readCase s c e ≡ taken k → IsWhy (k .sheet) (at k) (after k) (reasonsIn k)
 why-right s c e k q = case-why k (case-holds s c e k q)
@@ -131,7 +142,8 @@ pub why-one : (sh : Sheet) (m : Moment) (side : List Bool) (l h : List Reason) �
 why-one = why-same
 
 -- of a status that changed one reason, of another one for each of its lines
-pub why-changed : (s c e : List ℕ) (k : Case) → readCase s c e ≡ taken k → (x : ℕ) → x < length (at k .before) → changed (k .sheet) (at k) (after k) x ≡ true → length (about x (reasonsIn k)) ≡ 1
+pub why-changed : (s c e : List ℕ) (k : Case) → readCase s c e ≡ taken k → (x : ℕ) → x < length (at k .before) → changed (k .sheet) (at k) (after k) x ≡ true
+    → length (about x (reasonsIn k)) ≡ 1
 why-changed s c e k q = case-one k (case-holds s c e k q)
 
 pub why-lines : (s c e : List ℕ) (k : Case) → readCase s c e ≡ taken k → (x : ℕ) → x < length (at k .before) → changed (k .sheet) (at k) (after k) x ≡ false

@@ -1,7 +1,7 @@
 -- The output, and the part of the array that it fills written out.
 -- Assumes nothing.
 use borrow.Author.Needs.{needs}
-use Rattle.cardout.proofs.Callers.{printing}
+use Rattle.clerk_card.proofs.Callers.{printing}
 use Rattle.clerk.proofs.tell_card.Statement.{statement}
 use Rattle.clerk.proofs.tell_card.Tie as tie
 

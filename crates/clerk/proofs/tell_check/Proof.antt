@@ -1,7 +1,7 @@
 -- The output, and the part of the array that it fills written out.
 -- Assumes nothing.
 use borrow.Author.Needs.{needs}
-use Rattle.checkup.proofs.Callers.{printing}
+use Rattle.clerk_check.proofs.Callers.{printing}
 use Rattle.clerk.proofs.tell_check.Statement.{statement}
 use Rattle.clerk.proofs.tell_check.Tie as tie
 

@@ -1,7 +1,7 @@
 -- The output, and the part of the space that it fills written out.
 -- Assumes nothing.
 use borrow.Author.Needs.{needs}
-use Rattle.lookout.proofs.Callers.{printing}
+use Rattle.clerk_outlook.proofs.Callers.{printing}
 use Rattle.clerk.proofs.tell_names.Statement.{statement}
 use Rattle.clerk.proofs.tell_names.Tie as tie
 

@@ -1,7 +1,7 @@
 -- The output, and the part of the array that it fills written out.
 -- Assumes nothing.
 use borrow.Author.Needs.{needs}
-use Rattle.readout.proofs.Callers.{printing}
+use Rattle.clerk_why.proofs.Callers.{printing}
 use Rattle.clerk.proofs.tell_why.Statement.{statement}
 use Rattle.clerk.proofs.tell_why.Tie as tie
 

@@ -1,7 +1,7 @@
 -- The output, and the part of the array that it fills written out.
 -- Assumes nothing.
 use borrow.Author.Needs.{needs}
-use Rattle.output.proofs.Callers.{printing}
+use Rattle.desk_output.proofs.Callers.{printing}
 use Rattle.examples.proofs.answer.Statement.{statement}
 use Rattle.examples.proofs.answer.Tie as tie
 

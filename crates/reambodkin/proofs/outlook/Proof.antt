@@ -1,51 +1,40 @@
--- The outlook: a refusal of the sheet, one of card or event line, or the outlook of the case that was read.
+-- The outlook: a refusal of the papers, or the outlook of the case that was read.
 -- Assumes nothing.
 use borrow.Author.Needs.{needs}
+use Rattle.case_read.proofs.Callers.{taking}
 use Rattle.reambodkin.proofs.Laws.{listing}
 use Rattle.reambodkin.proofs.outlook.Statement.{statement}
 use Rattle.reambodkin.proofs.outlook.Tie as tie
 
-accept-requires : tie.Need-accept-requires
-accept-requires c κs = search (needs, listing)
+read-case-requires : tie.Need-read-case-requires
+read-case-requires c κs = search (needs, taking, listing)
 
 refusal-requires : tie.Need-refusal-requires
-refusal-requires c κs = search (needs, listing)
+refusal-requires c κs = search (needs, taking, listing)
 
 returns : tie.Need-returns
-returns c = search (needs, listing)
-
-read-told-requires : tie.Need-read-told-requires
-read-told-requires c κs = search (needs, listing)
-
-refusal-requires-2 : tie.Need-refusal-requires-2
-refusal-requires-2 c κs = search (needs, listing)
-
-returns-2 : tie.Need-returns-2
-returns-2 c = search (needs, listing)
+returns c = search (needs, taking, listing)
 
 moment-of-requires : tie.Need-moment-of-requires
-moment-of-requires c κs = search (needs, listing)
+moment-of-requires c κs = search (needs, taking, listing)
 
 outlook-case-requires : tie.Need-outlook-case-requires
-outlook-case-requires c κs = search (needs, listing)
+outlook-case-requires c κs = search (needs, taking, listing)
 
 same-length : tie.Need-same-length
-same-length c = search (needs, listing)
+same-length c = search (needs, taking, listing)
 
-returns-3 : tie.Need-returns-3
-returns-3 c = search (needs, listing)
+returns-2 : tie.Need-returns-2
+returns-2 c = search (needs, taking, listing)
 
 pub outlook-spec : {M : Type 1} → statement M
 outlook-spec =
     tie.close
     (tie.spec
-    accept-requires
+    read-case-requires
     refusal-requires
     returns
-    read-told-requires
-    refusal-requires-2
-    returns-2
     moment-of-requires
     outlook-case-requires
     same-length
-    returns-3)
+    returns-2)

@@ -9,11 +9,8 @@ slice-aggregate-put-text c = search (needs, ending)
 put-text-requires : tie.Need-put-text-requires
 put-text-requires c κs = search (needs, ending)
 
-put-count-requires : tie.Need-put-count-requires
-put-count-requires c κs = search (needs, ending)
-
-put-byte-requires : tie.Need-put-byte-requires
-put-byte-requires c κs = search (needs, ending)
+put-number-requires : tie.Need-put-number-requires
+put-number-requires c κs = search (needs, ending)
 
 same-length : tie.Need-same-length
 same-length c = search (needs, ending)
@@ -24,10 +21,4 @@ returns c = search (needs, ending)
 pub put-end-spec : {M : Type 1} → statement M
 put-end-spec =
     tie.close
-    (tie.spec
-    slice-aggregate-put-text
-    put-text-requires
-    put-count-requires
-    put-byte-requires
-    same-length
-    returns)
+    (tie.spec slice-aggregate-put-text put-text-requires put-number-requires same-length returns)

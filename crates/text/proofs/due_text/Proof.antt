@@ -1,7 +1,7 @@
 -- `text::due_text` answers as the meaning reads a text that is due: a paper that ended, another text, and the text itself.
 -- Assumes nothing.
 use borrow.Author.Needs.{needs}
-use Rattle.text.proofs.Pieces.{due-text-returns}
+use Rattle.text.proofs.Laws.{due-text-returns}
 use Rattle.text.proofs.due_text.Statement.{statement}
 use Rattle.text.proofs.due_text.Tie as tie
 

@@ -1,0 +1,65 @@
+-- LONG, or the three papers of the input.
+-- Assumes nothing.
+use borrow.Author.Needs.{needs}
+use Rattle.meaning.specs.Clerk.{cardOutput}
+use Rattle.desk_split.proofs.Callers.{splitting, input-long, input-done}
+use Rattle.desk_rooms.specs.Rooms.{cardRoom}
+use Rattle.desk_rooms.proofs.Callers.{refusal-room}
+use Rattle.clerk_card.proofs.Laws.{ofPapers}
+use Rattle.clerk_card.proofs.card_output.Statement.{statement}
+use Rattle.clerk_card.proofs.card_output.Tie as tie
+
+put-refusal-requires : tie.Need-put-refusal-requires
+put-refusal-requires c κs = search (needs, refusal-room cardRoom tt)
+
+same-length : tie.Need-same-length
+same-length c = search (needs, splitting)
+
+returns : tie.Need-returns
+unfolding cardOutput
+returns c = search (needs, input-long ofPapers)
+
+paper-len-requires : tie.Need-paper-len-requires
+paper-len-requires c κs = search (needs, splitting)
+
+rest-requires : tie.Need-rest-requires
+rest-requires c κs = search (needs, splitting)
+
+paper-len-requires-2 : tie.Need-paper-len-requires-2
+paper-len-requires-2 c κs = search (needs, splitting)
+
+slice-aggregate-print-card : tie.Need-slice-aggregate-print-card
+slice-aggregate-print-card c = search (needs, splitting)
+
+slice-aggregate-print-card-2 : tie.Need-slice-aggregate-print-card-2
+slice-aggregate-print-card-2 c = search (needs, splitting)
+
+rest-requires-2 : tie.Need-rest-requires-2
+rest-requires-2 c κs = search (needs, splitting)
+
+print-card-requires : tie.Need-print-card-requires
+print-card-requires c κs = search (needs, splitting)
+
+same-length-2 : tie.Need-same-length-2
+same-length-2 c = search (needs, splitting)
+
+returns-2 : tie.Need-returns-2
+unfolding cardOutput
+returns-2 c = search (needs, splitting, input-done ofPapers)
+
+pub card-output-spec : {M : Type 1} → statement M
+card-output-spec =
+    tie.close
+    (tie.spec
+    put-refusal-requires
+    same-length
+    returns
+    paper-len-requires
+    rest-requires
+    paper-len-requires-2
+    slice-aggregate-print-card
+    slice-aggregate-print-card-2
+    rest-requires-2
+    print-card-requires
+    same-length-2
+    returns-2)

@@ -1,0 +1,2 @@
+-- What callers use:
+pub mod Callers

@@ -1,0 +1,2 @@
+-- The sizes of the tables that follow from the limits:
+pub mod Sizes

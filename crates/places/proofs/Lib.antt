@@ -1,0 +1,4 @@
+-- For callers:
+pub mod Callers
+-- No second answer fits:
+pub mod Only

@@ -1,2 +1,0 @@
--- What is printed for a case, on its tables:
-pub mod Texts

@@ -1,0 +1,5 @@
+-- The end of a status's line, then the stage lines and the mile lines:
+pub mod Ends
+pub mod Statuses
+-- No second answer fits:
+pub mod Only

@@ -1,0 +1,5 @@
+-- What is written: a card is read back, so a step's result is again accepted; every card read is so written, and every event line.
+pub mod ReadBack
+pub mod CardText
+pub mod EventText
+pub mod Rows
