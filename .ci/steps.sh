@@ -86,9 +86,6 @@ compare() {
     within second cargo run --quiet --locked --offline --release --features desk --bin compare -- "$1" "$2"
 }
 
-# What the files keep among themselves: these words of tools/house, and the others as the tree comes into order.
-house_words=(imports laws edges sizes statements)
-
 # What needs no proof and no archive. The programs are not built yet: the commands are tried with stand-ins.
 before_proofs() {
     local programs=second/target/release
@@ -97,7 +94,7 @@ before_proofs() {
     step "the papers' own check" tests/papers
     step 'layout of rust/' within rust cargo fmt --check
     step 'layout of second/' within second cargo fmt --check
-    step 'the house' tools/house "${house_words[@]}"
+    step 'the house' tools/house imports laws edges sizes paths statements
     step "the house's own check" tests/house
     step 'tests of second/' cargo_tests second --release
     step 'tests of rust/ without the archive' cargo_tests rust --no-default-features

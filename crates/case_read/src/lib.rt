@@ -6,14 +6,14 @@ use case_tables::Card;
 use case_tables::Happening;
 use step_sheet::Accepted;
 
-// An accepted sheet, and what card and event line say under it; or a refusal's number, not 0, its paper and its line.
+// What card and event line say, and the accepted sheet under which they do; or a refusal's number, not 0, its paper and its line.
 pub struct Case {
     pub number: u8,
     pub paper: u8,
     pub line: usize,
-    pub sheet: Accepted,
     pub card: Card,
     pub happening: Happening,
+    pub sheet: Accepted,
 }
 
 // Nothing but a number, a paper and a line.
@@ -24,7 +24,6 @@ fn refused(number: u8, paper: u8, line: usize) -> Case
         number,
         paper,
         line,
-        sheet: step_sheet::refused(number, line),
         card: Card {
             values: [0; limits::FIELDS],
             starts: [0; limits::FIELDS],
@@ -39,6 +38,7 @@ fn refused(number: u8, paper: u8, line: usize) -> Case
             starts: [0; limits::FIELDS],
             lengths: [0; limits::FIELDS],
         },
+        sheet: step_sheet::refused(number, line),
     }
 }
 
@@ -50,12 +50,11 @@ pub fn read_case(sheet: &[u8], card: &[u8], event: &[u8]) -> Case
     if accepted.number != 0 {
         return refused(accepted.number, reply::SHEET, accepted.line);
     }
-    let heads = accepted.heads;
-    let given = card_read::read_card(heads, card);
+    let given = card_read::read_card(accepted.heads, card);
     if given.number != 0 {
         return refused(given.number, reply::CARD, given.line);
     }
-    let told = event_read::read_event(heads, event);
+    let told = event_read::read_event(accepted.heads, event);
     if told.number != 0 {
         return refused(told.number, reply::EVENT, told.line);
     }
@@ -65,8 +64,8 @@ pub fn read_case(sheet: &[u8], card: &[u8], event: &[u8]) -> Case
         number: 0,
         paper: 0,
         line: 0,
-        sheet: accepted,
         card,
         happening,
+        sheet: accepted,
     }
 }

@@ -12,7 +12,7 @@ use borrow.Author.Tests.{not-true, not-false}
 use lib.ListN.{length, take, drop, replicate, length-append, length-replicate}
 use lib.Seq.{sets, sets-eq}
 use Rattle.meaning.specs.Refusal.{Answer, taken, refused, onTaken, CYCLE}
-use Rattle.meaning.specs.Limits.{sheetBytes, fieldLimit, eventLimit, statusLimit}
+use Rattle.meaning.specs.Limits.{sheetBytes, statusLimit}
 use Rattle.meaning.specs.Reading.{paper}
 use Rattle.meaning.specs.Sheet as M
 use Rattle.meaning.specs.Sheet.{statuses}
@@ -32,9 +32,9 @@ use Rattle.sheet_tables.specs.declared.Heads.{Heads}
 use Rattle.sheet_tables.specs.Heads.{asHeads}
 use Rattle.sheet_tables.specs.Rules.{allWords, asRules}
 use Rattle.sheet_read.specs.declared.SheetRead.{SheetRead}
-use Rattle.sheet_read.specs.Answers.{asSheetRead}
+use Rattle.sheet_read.specs.Answers.{asSheetRead, wordsRead}
 use Rattle.graph_tests.specs.declared.Tests.{Tests}
-use Rattle.graph_tests.specs.Table.{asTests, testsOf, Ready}
+use Rattle.graph_tests.specs.Table.{asTests, firstLine, testsOf, Ready}
 use Rattle.graph_tests.specs.Answers.{rowsOf}
 use Rattle.graph_tests.proofs.Callers.{tests-taken, tests-are, tests-ready}
 use Rattle.graph_order.specs.declared.Sorting.{Sorting}
@@ -67,6 +67,13 @@ made : (x : Heads) (w : List ℕ) (n : ℕ) (p : Plan) (a : D.Accepted) → x �
     → p ≡ planFor (rowsOf (a .sheet)) (a .order)
     → _≡_ {A = Accepted} (record { number = 0; line = 0; heads = x; words = w; top = n; plan = p }) (takenSheet a)
 made x w n p a e1 e2 e3 e4 = rw (e1, e2, e3, e4)
+
+-- the line of the first rule, and the tests, by what was read
+abbrev pub lineRead : SheetRead → ℕ
+lineRead r = firstLine (r .heads .fields) (r .heads .events) (r .heads .stages) (r .heads .miles)
+
+abbrev pub testsRead : SheetRead → Tests
+testsRead r = testsOf (r .rules) (r .heads .under) (r .heads .stages) (lineRead r)
 
 -- what was read
 pub record Read (s : List ℕ) (r : SheetRead) : Type 0 where
@@ -116,20 +123,29 @@ module _ (s : List ℕ) (r : SheetRead) (told : r ≡ asSheetRead (paper 1 sheet
     unfolding asHeads
     events-are = ap (λ (r : SheetRead). r .heads .events) (up .same)
 
-    pub words-are : r .words ≡ padded wordRoom 0 (allWords (up .sh .rules))
-    words-are = ap (λ (r : SheetRead). r .words) (up .same) ∙ sets-padded (allWords (up .sh .rules)) (sheet-words s (up .sh) (up .is))
+    -- the words that were put
+    pub words-are : (w : List ℕ) → w ≡ wordsRead (paper 1 sheetBytes sheet s) → w ≡ padded wordRoom 0 (allWords (up .sh .rules))
+    words-are w put = put ∙ ap wordsRead (up .is) ∙ sets-padded (allWords (up .sh .rules)) (sheet-words s (up .sh) (up .is))
 
-    pub accept-words : length (r .words) ≡ wordRoom
-    accept-words = ap length words-are ∙ padded-length wordRoom 0 (allWords (up .sh .rules)) (sheet-words s (up .sh) (up .is))
+    pub accept-words : (w : List ℕ) → w ≡ wordsRead (paper 1 sheetBytes sheet s) → length w ≡ wordRoom
+    accept-words w put = ap length (words-are w put) ∙ padded-length wordRoom 0 (allWords (up .sh .rules)) (sheet-words s (up .sh) (up .is))
 
     pub accept-sum : Fits w64 (r .heads .stages + r .heads .miles)
     accept-sum = omega (arith, sum-is, well .heads .statuses-few)
 
-    pub accept-fields : r .heads .fields ≤ fieldLimit
-    accept-fields = omega (arith, fields-are, well .heads .fields-few)
+    -- the rules stand behind a line for the model and one for each name
+    line-is : lineRead r ≡ ruleLine (up .sh .heads)
+    unfolding ruleLine
+    line-is = omega (arith, fields-are, events-are, sum-is)
 
-    pub accept-events : r .heads .events ≤ eventLimit
-    accept-events = omega (arith, events-are, well .heads .events-few)
+    pub accept-ready : Ready (r .rules) (lineRead r)
+    accept-ready = tests-ready (up .sh) well (r .rules) (lineRead r) (ap (λ (r : SheetRead). r .rules) (up .same)) line-is
+
+    pub tests-told : (t : Tests) → t ≡ testsRead r → t ≡ asTests (rowsOf (up .sh))
+    unfolding asHeads
+    tests-told t made-of = tests-are (up .sh) (r .rules) (r .heads .under) (r .heads .stages) (lineRead r)
+        (ap (λ (r : SheetRead). r .rules) (up .same)) (ap (λ (r : SheetRead). r .heads .under) (up .same))
+        (ap (λ (r : SheetRead). r .heads .stages) (up .same)) line-is t made-of
 
     module _ (k : ℕ) (sum : k ≡ r .heads .stages + r .heads .miles) where
       pub accept-few : k ≤ statusLimit
@@ -141,45 +157,30 @@ module _ (s : List ℕ) (r : SheetRead) (told : r ≡ asSheetRead (paper 1 sheet
       pub accept-nodes : k * 2 ≤ nodeRoom
       accept-nodes = omega (arith, accept-few)
 
-      -- the rules stand behind a line for the model and one for each name
-      module _ (line : ℕ) (lines : line ≡ 2 + r .heads .fields + r .heads .events + k) where
-        line-is : line ≡ ruleLine (up .sh .heads)
-        unfolding ruleLine
-        line-is = omega (arith, fields-are, events-are, sum, sum-is)
+      module _ (t : Tests) (made-of : t ≡ testsRead r) (w : List ℕ) (put : w ≡ wordsRead (paper 1 sheetBytes sheet s)) (o : Sorting)
+          (sorted : o ≡ asSorting (orderFor (k * 2) (testsInto w (take (t .count) (t .rows))))) where
+        pub order : o ≡ asSorting (testingOrder (up .sh))
+        order = order-is (up .sh) well t w (tests-told t made-of) (words-are w put) k (sum ∙ sum-is) o sorted
 
-        pub accept-ready : Ready (r .rules) line
-        accept-ready = tests-ready (up .sh) well (r .rules) line (ap (λ (r : SheetRead). r .rules) (up .same)) line-is
+        pub accept-cycle : not (o .found) ≡ true → (q : Accepted) → q ≡ refusedSheet CYCLE 0 → q ≡ asAccepted (readSheet s)
+        unfolding readSheet
+        accept-cycle z q f = f ∙ sym (rw (up .is, order-none (up .sh) o order (not-true (o .found) z)))
 
-        module _ (t : Tests) (made-of : t ≡ testsOf (r .rules) (r .heads .under) (r .heads .stages) line) where
-          pub tests-told : t ≡ asTests (rowsOf (up .sh))
-          unfolding asHeads
-          tests-told = tests-are (up .sh) (r .rules) (r .heads .under) (r .heads .stages) line
-              (ap (λ (r : SheetRead). r .rules) (up .same)) (ap (λ (r : SheetRead). r .heads .under) (up .same))
-              (ap (λ (r : SheetRead). r .heads .stages) (up .same)) line-is t made-of
-
-          module _ (o : Sorting) (sorted : o ≡ asSorting (orderFor (k * 2) (testsInto (r .words) (take (t .count) (t .rows))))) where
-            pub order : o ≡ asSorting (testingOrder (up .sh))
-            order = order-is (up .sh) well t (r .words) tests-told words-are k (sum ∙ sum-is) o sorted
-
-            pub accept-cycle : not (o .found) ≡ true → (q : Accepted) → q ≡ refusedSheet CYCLE 0 → q ≡ asAccepted (readSheet s)
-            unfolding readSheet
-            accept-cycle z q f = f ∙ sym (rw (up .is, order-none (up .sh) o order (not-true (o .found) z)))
-
-            pub accept-taken : not (o .found) ≡ false → (n : ℕ) → n ≡ k * 2 → (p : Plan) → p ≡ asPlan (take (t .count) (t .rows)) (o .order) n
-                → _≡_ {A = Accepted} (record { number = 0; line = 0; heads = r .heads; words = r .words; top = r .rules .top; plan = p })
-                (asAccepted (readSheet s))
-            unfolding readSheet nodes asRules padded
-            accept-taken z n double p f =
-                let u = take (nodes (up .sh .heads)) (o .order) in
-                let some-is : testingOrder (up .sh) ≡ some u = order-some (up .sh) o order (not-false (o .found) z) in
-                let order-at : o .order ≡ padded nodeRoom 0 u = ap (λ (o : Sorting). o .order) (order ∙ ap asSorting some-is) in
-                let count : n ≡ length u = double ∙ ap (λ k. k * 2) (sum ∙ sum-is) ∙ sym (order-long (up .sh) u some-is) in
-                let plan-is : p ≡ planFor (rowsOf (up .sh)) u = f
-                ∙ ap (λ rows. asPlan rows (o .order) n) (ap (λ (t : Tests). take (t .count) (t .rows)) tests-told ∙ tests-taken (rowsOf (up .sh)))
-                ∙ ap₂ (asPlan (rowsOf (up .sh))) order-at count in
-                made (r .heads) (r .words) (r .rules .top) p (record { sheet = up .sh; order = u })
-                (ap (λ (r : SheetRead). r .heads) (up .same)) words-are (ap (λ (r : SheetRead). r .rules .top) (up .same)) plan-is
-                ∙ sym (rw (up .is, some-is))
+        pub accept-taken : not (o .found) ≡ false → (n : ℕ) → n ≡ k * 2 → (p : Plan) → p ≡ asPlan (take (t .count) (t .rows)) (o .order) n
+            → _≡_ {A = Accepted} (record { number = 0; line = 0; heads = r .heads; words = w; top = r .rules .top; plan = p })
+            (asAccepted (readSheet s))
+        unfolding readSheet nodes asRules padded
+        accept-taken z n double p f =
+            let u = take (nodes (up .sh .heads)) (o .order) in
+            let some-is : testingOrder (up .sh) ≡ some u = order-some (up .sh) o order (not-false (o .found) z) in
+            let order-at : o .order ≡ padded nodeRoom 0 u = ap (λ (o : Sorting). o .order) (order ∙ ap asSorting some-is) in
+            let count : n ≡ length u = double ∙ ap (λ k. k * 2) (sum ∙ sum-is) ∙ sym (order-long (up .sh) u some-is) in
+            let plan-is : p ≡ planFor (rowsOf (up .sh)) u = f
+            ∙ ap (λ rows. asPlan rows (o .order) n) (ap (λ (t : Tests). take (t .count) (t .rows)) (tests-told t made-of) ∙ tests-taken (rowsOf (up .sh)))
+            ∙ ap₂ (asPlan (rowsOf (up .sh))) order-at count in
+            made (r .heads) w (r .rules .top) p (record { sheet = up .sh; order = u })
+            (ap (λ (r : SheetRead). r .heads) (up .same)) (words-are w put) (ap (λ (r : SheetRead). r .rules .top) (up .same)) plan-is
+            ∙ sym (rw (up .is, some-is))
 
 pub ruleset accepting =
-    (accept-refused, accept-words, accept-sum, accept-few, accept-double, accept-nodes, accept-fields, accept-events, accept-ready, accept-cycle, accept-taken)
+    (accept-refused, accept-words, accept-sum, accept-few, accept-double, accept-nodes, accept-ready, accept-cycle, accept-taken)

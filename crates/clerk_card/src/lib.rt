@@ -16,14 +16,11 @@ fn print_card<'a>(sheet: &[u8], card: &'a [u8], event: &'a [u8], out: &mut [u8])
     if case.number != 0 {
         return desk_print::put_refusal(out, case.number, case.paper, case.line);
     }
-    let accepted = case.sheet;
-    let given = case.card;
-    let happening = case.happening;
-    let reply = step_case::step_case(accepted, given, happening, card, event, out);
+    let reply = step_case::step_case(case.sheet, case.card, case.happening, card, event, out);
     reply.count
 }
 
-// All that the clerk's program prints with the word `card`, at the start of `out`, which has at least 1,024 bytes; answers how long it is.
+// All that the clerk's program prints with the word `card`, at the start of `out`, which has at least `desk_rooms::CARD` bytes; answers how long it is.
 pub fn card_output(input: &[u8], out: &mut [u8]) -> usize
     requires { ⌜ cardRoom ≤ length (now out) ⌝ }
     ensures { λ r. ⌜ Front (cardOutput (now (input .entry))) r (now (out .entry)) (now (out .exit)) ⌝ }

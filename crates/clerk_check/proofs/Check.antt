@@ -1,5 +1,5 @@
 -- What is printed for a sheet with the word `check`, return by return: what is known there, and the answer that is asked.
-use Prim.Native.Nat.{ℕ, _+_, _≤_}
+use Prim.Native.Nat.{ℕ, _≤_}
 use mathlib.Core.Path.{_≡_, refl, sym, _∙_, ap, subst}
 use mathlib.Core.List.{List}
 use mathlib.Core.Option.{Option, none, some}
@@ -21,12 +21,11 @@ use Rattle.sheet_tables.specs.Heads.{Sized}
 use Rattle.sheet_tables.proofs.Tables.{sized}
 use Rattle.sheet_tables.specs.Rules.{asRules}
 use Rattle.sheet_read.specs.declared.SheetRead.{SheetRead}
-use Rattle.sheet_read.specs.Answers.{refusedSheet, asSheetRead}
+use Rattle.sheet_read.specs.Answers.{refusedSheet, asSheetRead, wordsRead}
 use Rattle.graph_tests.specs.declared.Tests.{Tests}
-use Rattle.graph_tests.specs.Table.{testsOf}
 use Rattle.space.specs.Answers.{Wrote}
 use Rattle.sets.specs.Front.{Front}
-use Rattle.case_sheet.proofs.Laws.{accept-sum, accept-fields, accept-events, accept-few, accept-ready}
+use Rattle.case_sheet.proofs.Laws.{accept-ready, accept-words}
 use Rattle.case_sheet.proofs.Laws as Read
 use Rattle.desk_split.proofs.Callers.{front-of}
 use Rattle.desk_rooms.specs.Rooms.{checkRoom}
@@ -35,8 +34,8 @@ use Rattle.clerk_rounds.proofs.Callers.{sheet-told}
 
 -- what is told of a sheet in order is short
 order-short : (sh : M.Sheet) → Well sh → (o : Option (List ℕ)) → length (orderTold sh o) ≤ checkRoom
-order-short sh well (some o) = sheet-short sh well
-order-short sh well none = circle-short sh well
+order-short sh well (some o) = omega (arith, sheet-short sh well)
+order-short sh well none = omega (arith, circle-short sh well)
 
 module _ (s : List ℕ) (r : SheetRead) (told : r ≡ asSheetRead (paper 1 sheetBytes sheet s)) where
   wrong : (r .number ≡ 0 → ⊥) → paper 1 sheetBytes sheet s ≡ refused (r .number) 1 (r .line)
@@ -64,22 +63,21 @@ module _ (s : List ℕ) (r : SheetRead) (told : r ≡ asSheetRead (paper 1 sheet
     pub check-sized : Sized (r .heads)
     check-sized = rw (Read.up s r told zero .same) (sized (sh .heads) (well .heads))
 
-    module _ (k : ℕ) (sum : k ≡ r .heads .stages + r .heads .miles) (line : ℕ) (lines : line ≡ 2 + r .heads .fields + r .heads .events + k)
-        (t : Tests) (made-of : t ≡ testsOf (r .rules) (r .heads .under) (r .heads .stages) line) where
-      text-is : sheetText (r .heads) (r .rules .count) (r .rules .leaves) (r .words) (take (t .count) (t .rows)) ≡ orderTold sh (testingOrder sh)
+    module _ (w : List ℕ) (put : w ≡ wordsRead (paper 1 sheetBytes sheet s)) (t : Tests) (made-of : t ≡ Read.testsRead r) where
+      text-is : sheetText (r .heads) (r .rules .count) (r .rules .leaves) w (take (t .count) (t .rows)) ≡ orderTold sh (testingOrder sh)
       unfolding asRules
       text-is =
-          ap (λ (q : SheetRead). sheetText (q .heads) (q .rules .count) (q .rules .leaves) (r .words) (take (t .count) (t .rows))) (Read.up s r told zero .same)
-          ∙ sheet-told sh well t (r .words) (Read.tests-told s r told zero k sum line lines t made-of) (Read.words-are s r told zero)
+          ap (λ (q : SheetRead). sheetText (q .heads) (q .rules .count) (q .rules .leaves) w (take (t .count) (t .rows))) (Read.up s r told zero .same)
+          ∙ sheet-told sh well t w (Read.tests-told s r told zero t made-of) (Read.words-are s r told zero w put)
 
       pub check-fits : (o : List ℕ) → checkRoom ≤ length o
-          → length (sheetText (r .heads) (r .rules .count) (r .rules .leaves) (r .words) (take (t .count) (t .rows))) ≤ length o
+          → length (sheetText (r .heads) (r .rules .count) (r .rules .leaves) w (take (t .count) (t .rows))) ≤ length o
       check-fits o h = rw text-is (omega (arith, order-short sh well (testingOrder sh)))
 
       pub check-told : (o o1 : List ℕ) (q : ℕ)
-          → Wrote 0 (sheetText (r .heads) (r .rules .count) (r .rules .leaves) (r .words) (take (t .count) (t .rows))) o o1 q → Front (checkOutput s) q o o1
+          → Wrote 0 (sheetText (r .heads) (r .rules .count) (r .rules .leaves) w (take (t .count) (t .rows))) o o1 q → Front (checkOutput s) q o o1
       unfolding checkOutput checkPrinted
       check-told o o1 q v =
           rw (Read.up s r told zero .is) (front-of (orderTold sh (testingOrder sh)) o o1 q (subst (λ w. Wrote 0 w o o1 q) text-is v))
 
-pub ruleset checking = (check-wrong, check-sized, accept-sum, accept-fields, accept-events, accept-few, accept-ready, check-fits, check-told)
+pub ruleset checking = (check-wrong, check-sized, accept-ready, accept-words, check-fits, check-told)

@@ -12,23 +12,33 @@ use case_tables::Happening;
 use sheet_tables::Heads;
 
 // All that is printed for a sheet with the word `check`: its refusal, with the circle where its rules depend on each other in one; or what it holds. `out`
-// has at least 8,192 bytes.
+// has at least `desk_rooms::CHECK` bytes.
 pub fn check_output(input: &[u8], out: &mut [u8]) -> usize
     requires { ⌜ checkRoom ≤ length (now out) ⌝ }
     ensures { λ r. ⌜ Front (checkOutput (now (input .entry))) r (now (out .entry)) (now (out .exit)) ⌝ }
 {
-    let read = sheet_read::read_sheet(input);
+    let mut words = [0; limits::WORDS];
+    let read = sheet_read::read_sheet(input, &mut words);
     if read.number != 0 {
         return desk_print::put_refusal(out, read.number, reply::SHEET, read.line);
     }
-    let heads = read.heads;
-    let rules = read.rules;
-    let words = read.words;
-    let under = heads.under;
-    let statuses = heads.stages + heads.miles;
-    let line = case_sheet::rule_line(heads.fields, heads.events, statuses);
-    let tests = graph_tests::tests_of(rules, under, heads.stages, line);
-    clerk_rounds::put_sheet(out, heads, rules.count, rules.leaves, tests, &words)
+    let under = read.heads.under;
+    let tests = graph_tests::tests_of(
+        read.rules,
+        under,
+        read.heads.fields,
+        read.heads.events,
+        read.heads.stages,
+        read.heads.miles,
+    );
+    clerk_rounds::put_sheet(
+        out,
+        read.heads,
+        read.rules.count,
+        read.rules.leaves,
+        tests,
+        &words,
+    )
 }
 
 // The card with `?` in every field and no for every status, which fits.
@@ -59,7 +69,7 @@ fn put_blank(out: &mut [u8], heads: Heads) -> usize
     count
 }
 
-// All that is printed for a sheet with the word `blank`: its refusal, or its blank card. `out` has at least 1,024 bytes.
+// All that is printed for a sheet with the word `blank`: its refusal, or its blank card. `out` has at least `desk_rooms::CARD` bytes.
 pub fn blank_output(input: &[u8], out: &mut [u8]) -> usize
     requires { ⌜ cardRoom ≤ length (now out) ⌝ }
     ensures { λ r. ⌜ Front (blankOutput (now (input .entry))) r (now (out .entry)) (now (out .exit)) ⌝ }

@@ -94,7 +94,7 @@ module _ (s c e : List ℕ) (x : Case) (told : x ≡ asCase (readCase s c e)) (z
   pub case-named : Named x
   case-named = record {
     ready = subst (λ (x : Case). Ready (x .sheet) (momentOf (x .card) (x .happening))) (sym (d .is)) (rw at-it (ready s c e k (d .q)));
-    room = rw text-is (case-prospects-short k papers);
+    room = rw text-is (omega (arith, case-prospects-short k papers));
   }
 
   pub case-done : (o o1 : List ℕ) (n : ℕ) → Wrote 0 (namedText x) o o1 n → Wrote 0 (outlookPrinted (readCase s c e)) o o1 n

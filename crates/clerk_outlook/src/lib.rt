@@ -15,17 +15,13 @@ fn print_named(case: Case, out: &mut [u8]) -> usize
     requires { ⌜ Named case × (namedRoom ≤ length (now out)) ⌝ }
     ensures { λ r. ⌜ Wrote 0 (namedText case) (now (out .entry)) (now (out .exit)) r ⌝ }
 {
-    let sheet = case.sheet;
-    let given = case.card;
-    let happening = case.happening;
-    let moment = step_moment::moment_of(given, happening);
+    let moment = step_moment::moment_of(case.card, case.happening);
     let mut patterns = [0u32; limits::PARTS];
-    let listed = outlook_case::list_case(sheet, moment, &mut patterns);
+    let listed = outlook_case::list_case(case.sheet, moment, &mut patterns);
     let Listed::Patterns(count) = listed else {
         return desk_print::put_many(out, 0);
     };
-    let heads = sheet.heads;
-    clerk_prospects::put_prospects(out, heads, &patterns[..count])
+    clerk_prospects::put_prospects(out, case.sheet.heads, &patterns[..count])
 }
 
 // What `outlook` prints for three papers: a refusal, or the outlook in names.
@@ -41,7 +37,7 @@ fn print_outlook(sheet: &[u8], card: &[u8], event: &[u8], out: &mut [u8]) -> usi
     print_named(case, out)
 }
 
-// All that the clerk's program prints with the word `outlook`, at the start of `out`, which has at least 1,900,544 bytes; answers how long it is.
+// All that the clerk's program prints with the word `outlook`, at the start of `out`, which has at least `desk_rooms::NAMED` bytes; answers how long it is.
 pub fn outlook_output(input: &[u8], out: &mut [u8]) -> usize
     requires { ⌜ namedRoom ≤ length (now out) ⌝ }
     ensures { λ r. ⌜ Front (outlookOutput (now (input .entry))) r (now (out .entry)) (now (out .exit)) ⌝ }

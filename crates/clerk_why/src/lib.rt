@@ -17,18 +17,14 @@ fn print_why(sheet: &[u8], card: &[u8], event: &[u8], out: &mut [u8]) -> usize
     if case.number != 0 {
         return desk_print::put_refusal(out, case.number, case.paper, case.line);
     }
-    let accepted = case.sheet;
-    let given = case.card;
-    let happening = case.happening;
-    let moment = step_moment::moment_of(given, happening);
+    let moment = step_moment::moment_of(case.card, case.happening);
     let mut list = [0u32; limits::TESTS];
-    let reply = why_case::why_case(accepted, moment, &mut list);
-    let heads = accepted.heads;
+    let reply = why_case::why_case(case.sheet, moment, &mut list);
     let marks = moment.before;
-    clerk_reasons::put_reasons(out, sheet, heads, marks, &list[..reply.count])
+    clerk_reasons::put_reasons(out, sheet, case.sheet.heads, marks, &list[..reply.count])
 }
 
-// All that the clerk's program prints with the word `why`, at the start of `out`, which has at least 49,152 bytes; answers how long it is.
+// All that the clerk's program prints with the word `why`, at the start of `out`, which has at least `desk_rooms::WHY` bytes; answers how long it is.
 pub fn why_output(input: &[u8], out: &mut [u8]) -> usize
     requires { ⌜ whyRoom ≤ length (now out) ⌝ }
     ensures { λ r. ⌜ Front (whyOutput (now (input .entry))) r (now (out .entry)) (now (out .exit)) ⌝ }

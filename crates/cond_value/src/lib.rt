@@ -1,6 +1,6 @@
 // The value of a condition in its flat form, as a mark's code.
 ghost use mathlib.Core.Path.{_≡_};
-ghost use Prim.Native.Nat.{_-_, _≤_, min};
+ghost use Prim.Native.Nat.{_-_, _≤_};
 ghost use lib.Dec.{eqb, ltb};
 ghost use lib.ListN.{take, drop};
 ghost use Rattle.meaning.specs.Kleene.{known₃};
@@ -91,18 +91,11 @@ fn step(w: u64, st: u64, values: &Values, marks: &Marks) -> u64
     }
 }
 
-// The lower of the two: words behind the last are not asked for.
-fn lower(a: usize, b: usize) -> usize
-    ensures { λ r. ⌜ r ≡ min a b ⌝ }
-{
-    if a < b { a } else { b }
-}
-
 // The value of the words from `from` up to `to`, as a mark's code; of each field `values` has its value's code, of each status `marks` its mark.
 pub fn verdict(words: &[u64], from: usize, to: usize, values: &Values, marks: &Marks) -> u8
     ensures { λ r. ⌜ r ≡ verdictOf (now (values .entry)) (now (marks .entry)) (take (to - from) (drop from (now (words .entry)))) ⌝ }
 {
-    let end = lower(to, words.len());
+    let end = places::lower(to, words.len());
     let mut st: u64 = 0;
     let mut i = from;
     while i < end {

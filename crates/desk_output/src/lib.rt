@@ -90,12 +90,8 @@ fn put_step<'a>(case: Case, card: &'a [u8], event: &'a [u8], out: &mut [u8]) -> 
         × (0 + length (stepText case (now card) (now event)) ≤ length (now out)) ⌝ }
     ensures { λ r. ⌜ Wrote 0 (stepText case (now (card .entry)) (now (event .entry))) (now (out .entry)) (now (out .exit)) r ⌝ }
 {
-    let sheet = case.sheet;
-    let given = case.card;
-    let happening = case.happening;
-    let heads = sheet.heads;
-    let reply = step_case::step_case(sheet, given, happening, card, event, out);
-    put_tasks(out, reply.count, heads, reply.tasks)
+    let reply = step_case::step_case(case.sheet, case.card, case.happening, card, event, out);
+    put_tasks(out, reply.count, case.sheet.heads, reply.tasks)
 }
 
 // The outlook of a case that was read.
@@ -103,11 +99,8 @@ fn put_coming(case: Case, out: &mut [u8], at: usize) -> usize
     requires { ⌜ Ready (case .sheet) (momentOf (case .card) (case .happening)) × (at + listRoom ≤ length (now out)) ⌝ }
     ensures { λ r. ⌜ Wrote at (outlookLines (answerOf (case .sheet) (momentOf (case .card) (case .happening)))) (now (out .entry)) (now (out .exit)) r ⌝ }
 {
-    let sheet = case.sheet;
-    let given = case.card;
-    let happening = case.happening;
-    let moment = step_moment::moment_of(given, happening);
-    put_outlook(out, at, sheet, moment)
+    let moment = step_moment::moment_of(case.card, case.happening);
+    put_outlook(out, at, case.sheet, moment)
 }
 
 // What is printed for three papers: a refusal, or the next card, the tasks and the outlook.
@@ -123,7 +116,7 @@ fn print_case<'a>(sheet: &[u8], card: &'a [u8], event: &'a [u8], out: &mut [u8])
     put_coming(case, out, at)
 }
 
-// All that the desk program prints for its input, at the start of `out`, which has at least 81,920 bytes (`desk_rooms::DESK`); answers how long it is.
+// All that the desk program prints for its input, at the start of `out`, which has at least `desk_rooms::DESK` bytes; answers how long it is.
 pub fn desk_output(input: &[u8], out: &mut [u8]) -> usize
     requires { ⌜ deskRoom ≤ length (now out) ⌝ }
     ensures { λ r. ⌜ Front (deskOutput (now (input .entry))) r (now (out .entry)) (now (out .exit)) ⌝ }

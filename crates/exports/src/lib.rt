@@ -98,8 +98,8 @@ pub extern "C" fn reambodkin_why(
     tell(told, reply)
 }
 
-// What the desk program prints for its input, at the start of `out`, and how long it is. Where `out` has fewer than 81,920 bytes nothing is touched and 0 is
-// returned.
+// What the desk program prints for its input, at the start of `out`, and how long it is. Where `out` has fewer than `desk_rooms::DESK` bytes
+// nothing is touched and 0 is returned.
 #[no_mangle]
 pub extern "C" fn reambodkin_desk(input: &[u8], out: &mut [u8]) -> usize
     ensures answer { λ r. ⌜ r ≡ withRoom deskRoom (now (out .entry)) (length (deskOutput (now (input .entry)))) 0 ⌝ }
@@ -113,7 +113,7 @@ pub extern "C" fn reambodkin_desk(input: &[u8], out: &mut [u8]) -> usize
     desk_output::desk_output(input, out)
 }
 
-// What the clerk's program prints with the word `why`, likewise; here fewer than 49,152 bytes are too few.
+// What the clerk's program prints with the word `why`, likewise; here fewer than `desk_rooms::WHY` bytes are too few.
 #[no_mangle]
 pub extern "C" fn reambodkin_clerk_why(input: &[u8], out: &mut [u8]) -> usize
     ensures answer { λ r. ⌜ r ≡ withRoom whyRoom (now (out .entry)) (length (whyOutput (now (input .entry)))) 0 ⌝ }
@@ -127,7 +127,7 @@ pub extern "C" fn reambodkin_clerk_why(input: &[u8], out: &mut [u8]) -> usize
     clerk_why::why_output(input, out)
 }
 
-// The same with the word `card`; here 1,024 bytes are enough.
+// The same with the word `card`; here `desk_rooms::CARD` bytes are enough.
 #[no_mangle]
 pub extern "C" fn reambodkin_clerk_card(input: &[u8], out: &mut [u8]) -> usize
     ensures answer { λ r. ⌜ r ≡ withRoom cardRoom (now (out .entry)) (length (cardOutput (now (input .entry)))) 0 ⌝ }
@@ -141,7 +141,7 @@ pub extern "C" fn reambodkin_clerk_card(input: &[u8], out: &mut [u8]) -> usize
     clerk_card::card_output(input, out)
 }
 
-// With the word `outlook`; here fewer than 1,900,544 bytes are too few.
+// With the word `outlook`; here fewer than `desk_rooms::NAMED` bytes are too few.
 #[no_mangle]
 pub extern "C" fn reambodkin_clerk_outlook(input: &[u8], out: &mut [u8]) -> usize
     ensures answer { λ r. ⌜ r ≡ withRoom namedRoom (now (out .entry)) (length (outlookOutput (now (input .entry)))) 0 ⌝ }
@@ -155,7 +155,7 @@ pub extern "C" fn reambodkin_clerk_outlook(input: &[u8], out: &mut [u8]) -> usiz
     clerk_outlook::outlook_output(input, out)
 }
 
-// With the word `check`, for a sheet alone; here 8,192 bytes are enough.
+// With the word `check`, for a sheet alone; here `desk_rooms::CHECK` bytes are enough.
 #[no_mangle]
 pub extern "C" fn reambodkin_clerk_check(input: &[u8], out: &mut [u8]) -> usize
     ensures answer { λ r. ⌜ r ≡ withRoom checkRoom (now (out .entry)) (length (checkOutput (now (input .entry)))) 0 ⌝ }
@@ -169,7 +169,7 @@ pub extern "C" fn reambodkin_clerk_check(input: &[u8], out: &mut [u8]) -> usize
     clerk_check::check_output(input, out)
 }
 
-// With the word `blank`, for a sheet alone; here 1,024 bytes are enough.
+// With the word `blank`, for a sheet alone; here `desk_rooms::CARD` bytes are enough.
 #[no_mangle]
 pub extern "C" fn reambodkin_clerk_blank(input: &[u8], out: &mut [u8]) -> usize
     ensures answer { λ r. ⌜ r ≡ withRoom cardRoom (now (out .entry)) (length (blankOutput (now (input .entry)))) 0 ⌝ }

@@ -224,7 +224,7 @@ module _ (sh : Sheet) (well : Well sh) (table : Tests) (ws : List ℕ) (tests-ar
   unfolding testingOrder nodes
   words-order rest words-are n few r e = e ∙ ap₂ (λ m into. asSorting (orderFor (m * 2) into)) few (fun-ext (words-into rest words-are))
 
-  -- the same of words that fill an array of 1,024
+  -- the same of words that fill the array for them
   pub order-is : ws ≡ padded wordRoom 0 (allWords (sh .rules)) → (n : ℕ) → n ≡ length (statuses (sh .heads)) → (r : Sorting)
       → r ≡ asSorting (orderFor (n * 2) (testsInto ws (take (table .count) (table .rows)))) → r ≡ asSorting (testingOrder sh)
   unfolding padded

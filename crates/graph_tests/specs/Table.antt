@@ -59,6 +59,10 @@ asTests ts = record { rows = padded testRoom noTest ts; count = length ts }
 abbrev pub behind : Tests → List Test → Tests
 behind t ts = record { rows = sets (t .rows) (t .count) ts; count = t .count + length ts }
 
+-- the line of the first rule: behind one for the model and one for each name
+abbrev pub firstLine : ℕ → ℕ → ℕ → ℕ → ℕ
+firstLine fields events stages miles = 2 + fields + events + stages + miles
+
 -- the table of a sheet's tests
 unfoldable pub testsOf : Rules → List ℕ → ℕ → ℕ → Tests
 testsOf rules under stages line = asTests (ruleRows under line (take (rules .count) (rules .rows)) ++ closingRows 0 (take stages under))

@@ -4,7 +4,7 @@ ghost use mathlib.Core.Path.{_≡_};
 ghost use Prim.Native.Nat.{_≤_, _<_};
 ghost use lib.ListN.{take};
 ghost use Rattle.meaning.specs.Limits.{ruleLimit, statusLimit};
-ghost use Rattle.graph_tests.specs.Table.{noTest, ruleTest, closes, ruleRows, closingRows, asTests, behind, testsOf, Ready};
+ghost use Rattle.graph_tests.specs.Table.{noTest, ruleTest, closes, ruleRows, closingRows, asTests, behind, firstLine, testsOf, Ready};
 use sheet_tables::Rule;
 use sheet_tables::Rules;
 use sheet_tables::Trigger;
@@ -131,10 +131,19 @@ fn with_closings(tests: Tests, under: [u8; limits::STATUSES], stages: usize) -> 
     Tests { rows, count }
 }
 
-// The tests of a sheet, each with node, home and line: its rules, the first of which stands on `line`, then the closings of its child stages.
-pub fn tests_of(rules: Rules, under: [u8; limits::STATUSES], stages: usize, line: usize) -> Tests
-    requires { ⌜ Ready rules line ⌝ }
-    ensures { λ r. ⌜ r ≡ testsOf rules under stages line ⌝ }
+// The tests of a sheet that names so many, each with node, home and line: its rules, which stand behind a line for the model and one for each name, then the
+// closings of its child stages.
+pub fn tests_of(
+    rules: Rules,
+    under: [u8; limits::STATUSES],
+    fields: usize,
+    events: usize,
+    stages: usize,
+    miles: usize,
+) -> Tests
+    requires { ⌜ Ready rules (firstLine fields events stages miles) ⌝ }
+    ensures { λ r. ⌜ r ≡ testsOf rules under stages (firstLine fields events stages miles) ⌝ }
 {
+    let line = 2 + fields + events + stages + miles;
     with_closings(rule_tests(rules, &under, line), under, stages)
 }

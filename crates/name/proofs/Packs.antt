@@ -15,7 +15,7 @@ use lib.ListN.{length, drop, take, getD, drop-of-length-le, length-drop}
 use lib.Seq.{drop-cons, getD-take}
 use Rattle.meaning.specs.Text.{run, same, among, find, later, any, isIn, from}
 use Rattle.meaning.specs.Limits.{nameBytes}
-use Rattle.meaning.specs.Name.{Name, nameByte, reserved}
+use Rattle.meaning.specs.Name.{Name, letter, nameByte, reserved}
 use Rattle.theory.specs.Lists.Members.{every, eqb-alike}
 use Rattle.theory.specs.Papers.Names.{Good, good-plain, good-short, run-first, run-taken, same-equal}
 use Rattle.theory.specs.Reading.Told.{run-fits}
@@ -26,6 +26,19 @@ use Rattle.name.specs.declared.Name.{Name as Kept}
 use Rattle.name.specs.Packed.{base, symbol, byteOf, packed, namedIn, named}
 use Rattle.name.specs.Names.{kept, nameOf}
 use Rattle.name.specs.Answers.{foundBy, sameKept, foundIn, placeOf, further}
+
+-- THE RETURNS OF is_name_byte, from the answer a of is_letter: the code gives back the test that decides
+module _ (x : ℕ) (a : Bool) (is : a ≡ letter x) where
+  pub byte-letter : a ≡ true → a ≡ nameByte x
+  byte-letter e = rw (← is, e)
+
+  pub byte-digit : a ≡ false → 48 ≤ x → leb x 57 ≡ nameByte x
+  byte-digit e h = rw (← is, e, le-leb 48 x h)
+
+  pub byte-other : a ≡ false → x < 48 → leb 48 x ≡ nameByte x
+  byte-other e h = rw (← is, e, lt-leb 48 x h)
+
+pub ruleset byte-returns = (byte-letter, byte-digit, byte-other)
 
 -- SYMBOLS
 

@@ -49,19 +49,22 @@ unfolding namedIn
 named-step zero v g h = absurd (omega arith)
 named-step (suc k) v g h = let z : suc k - 1 ≡ k = omega arith in rw (ne-eqb v 0 h, namedIn, z)
 
--- HOW LONG A NAME IS: n symbols are passed, v is left
-pub len-start : (w : Kept) → length (nameOf w) ≡ 0 + length (namedIn (spellRoom - 0) (w .word))
-unfolding nameOf named
+-- HOW LONG THE NAME OF A NUMBER IS: n symbols are passed, v is left
+pub len-start : (w : ℕ) → length (named w) ≡ 0 + length (namedIn (spellRoom - 0) w)
+unfolding named
 len-start w = omega arith
 
-module _ (w : Kept) (n v : ℕ) (so : length (nameOf w) ≡ n + length (namedIn (spellRoom - n) v)) where
+module _ (w : Kept) (n v : ℕ) (so : length (named (w .word)) ≡ n + length (namedIn (spellRoom - n) v)) where
   pub len-end : v ≡ 0 → n ≡ length (nameOf w)
+  unfolding nameOf
   len-end e = omega (arith, ap length (named-none (spellRoom - n) v e))
 
   pub len-full : spellRoom ≤ n → n ≡ length (nameOf w)
+  unfolding nameOf
   len-full h = omega (arith, ap length (named-over (spellRoom - n) v (omega arith)))
 
-  pub len-more : n < spellRoom → (v ≡ 0 → ⊥) → (u m : ℕ) → u ≡ v / base → m ≡ n + 1 → length (nameOf w) ≡ m + length (namedIn (spellRoom - m) u)
+module _ (w n v : ℕ) (so : length (named w) ≡ n + length (namedIn (spellRoom - n) v)) where
+  pub len-more : n < spellRoom → (v ≡ 0 → ⊥) → (u m : ℕ) → u ≡ v / base → m ≡ n + 1 → length (named w) ≡ m + length (namedIn (spellRoom - m) u)
   len-more h g u m e z =
       let k : spellRoom - n - 1 ≡ spellRoom - m = omega arith in
       rw (e, ← k) (omega (arith, ap length (named-step (spellRoom - n) v (omega arith) g)))
@@ -83,31 +86,20 @@ spelt-short w = few spellRoom (w .word)
         ]) ≤ suc k) [ true ↦ omega arith | false ↦ omega (arith, few k (v / base)) ]
 
 -- ITS BYTES: the first n stand in the array, and those of v are left
-pub record Begun (w : Kept) (bytes : List ℕ) (n v : ℕ) : Type 0 where
+pub record Begun (w : ℕ) (bytes : List ℕ) (n v : ℕ) : Type 0 where
   pub so : List ℕ
   pub many : n ≡ length so
   pub within : n ≤ spellRoom
   pub stand : bytes ≡ padded spellRoom 0 so
-  pub whole : nameOf w ≡ so ++ namedIn (spellRoom - n) v
+  pub whole : named w ≡ so ++ namedIn (spellRoom - n) v
 
-pub spell-start : (w : Kept) → Begun w (replicate spellRoom 0) 0 (w .word)
-unfolding nameOf named padded
+pub spell-start : (w : ℕ) → Begun w (replicate spellRoom 0) 0 w
+unfolding named padded
 spell-start w = record { so = []; many = refl; within = omega arith; stand = refl; whole = refl }
 
-module _ (w : Kept) (bytes : List ℕ) (n v : ℕ) (b : Begun w bytes n v) where
+module _ (w : ℕ) (bytes : List ℕ) (n v : ℕ) (b : Begun w bytes n v) where
   pub spell-places : length bytes ≡ spellRoom
   spell-places = rw (b .stand) (padded-length spellRoom 0 (b .so) (omega (arith, b .many, b .within)))
-
-  done : namedIn (spellRoom - n) v ≡ [] → record { bytes = bytes; length = n } ≡ spellingOf (nameOf w)
-  done e =
-      let z : nameOf w ≡ b .so = rw (b .whole, e, append-nil (b .so)) in
-      rw (z, b .stand, b .many)
-
-  pub spell-end : v ≡ 0 → record { bytes = bytes; length = n } ≡ spellingOf (nameOf w)
-  spell-end e = done (named-none (spellRoom - n) v e)
-
-  pub spell-full : spellRoom ≤ n → record { bytes = bytes; length = n } ≡ spellingOf (nameOf w)
-  spell-full h = done (named-over (spellRoom - n) v (omega arith))
 
   pub spell-more : n < spellRoom → (v ≡ 0 → ⊥) → (d u m : ℕ) → d ≡ byteOf (v % base) → u ≡ v / base → m ≡ n + 1 → Begun w (set bytes n d) m u
   spell-more h g d u m x y z =
@@ -119,5 +111,18 @@ module _ (w : Kept) (bytes : List ℕ) (n v : ℕ) (b : Begun w bytes n v) where
         stand = rw (b .stand, b .many) (padded-set spellRoom 0 (b .so) d (omega (arith, b .many)));
         whole = b .whole ∙ rw (named-step (spellRoom - n) v (omega arith) g, ← x, ← y, k) (sym (append-snoc (b .so) d (namedIn (spellRoom - m) u)));
       }
+
+module _ (w : Kept) (bytes : List ℕ) (n v : ℕ) (b : Begun (w .word) bytes n v) where
+  done : namedIn (spellRoom - n) v ≡ [] → record { bytes = bytes; length = n } ≡ spellingOf (nameOf w)
+  unfolding nameOf
+  done e =
+      let z : named (w .word) ≡ b .so = rw (b .whole, e, append-nil (b .so)) in
+      rw (z, b .stand, b .many)
+
+  pub spell-end : v ≡ 0 → record { bytes = bytes; length = n } ≡ spellingOf (nameOf w)
+  spell-end e = done (named-none (spellRoom - n) v e)
+
+  pub spell-full : spellRoom ≤ n → record { bytes = bytes; length = n } ≡ spellingOf (nameOf w)
+  spell-full h = done (named-over (spellRoom - n) v (omega arith))
 
 pub ruleset spelling = (spell-start, spell-places, spell-end, spell-full, spell-more)

@@ -14,10 +14,7 @@ pub fn step<'a>(sheet: &[u8], card: &'a [u8], event: &'a [u8], out: &mut [u8]) -
     if case.number != 0 {
         return reply::refusal(case.number, case.paper, case.line);
     }
-    let accepted = case.sheet;
-    let given = case.card;
-    let happening = case.happening;
-    step_case::step_case(accepted, given, happening, card, event, out)
+    step_case::step_case(case.sheet, case.card, case.happening, card, event, out)
 }
 
 // The outlook: every pattern that may still come, ascending, at the start of `out`, and how many there are; or a refusal, and `out` is untouched.
@@ -29,11 +26,8 @@ pub fn outlook(sheet: &[u8], card: &[u8], event: &[u8], out: &mut [u32]) -> Repl
     if case.number != 0 {
         return reply::refusal(case.number, case.paper, case.line);
     }
-    let accepted = case.sheet;
-    let given = case.card;
-    let happening = case.happening;
-    let moment = step_moment::moment_of(given, happening);
-    outlook_case::outlook_case(accepted, moment, out)
+    let moment = step_moment::moment_of(case.card, case.happening);
+    outlook_case::outlook_case(case.sheet, moment, out)
 }
 
 // Why each status changed, or what stopped each line of its change: the reasons as numbers, ascending, at the start of `out`, and how many there are; or a
@@ -46,9 +40,6 @@ pub fn why(sheet: &[u8], card: &[u8], event: &[u8], out: &mut [u32]) -> Reply
     if case.number != 0 {
         return reply::refusal(case.number, case.paper, case.line);
     }
-    let accepted = case.sheet;
-    let given = case.card;
-    let happening = case.happening;
-    let moment = step_moment::moment_of(given, happening);
-    why_case::why_case(accepted, moment, out)
+    let moment = step_moment::moment_of(case.card, case.happening);
+    why_case::why_case(case.sheet, moment, out)
 }

@@ -6,6 +6,7 @@ use mathlib.Core.List.{List, [], _∷_, _++_, map, append-nil, append-assoc}
 use native.Mathlib.Omega.{arith}
 use lib.Dec.{leb}
 use lib.ListN.{length, take, drop, set, length-append, length-map}
+use lib.Seq.{drop-drop}
 use mir.Val.{Fits}
 use mir.Syntax.{w64, w8}
 use Rattle.meaning.specs.Limits.{statusLimit}
@@ -32,8 +33,11 @@ use Rattle.sheet_section.proofs.Rows.{tabled, counted, plain-well, stages-known
 use Rattle.sheet_section.proofs.Sections.{read-handed, read-from, Going, going-start, next, going-more, RowTold, going-row}
 use Rattle.sheet_statuses.specs.declared.Under.{Under}
 use Rattle.sheet_statuses.specs.declared.Under.the-variants as U
-use Rattle.sheet_statuses.specs.Answers.{asUnder, underFault, statusKey, withStatus, linesOf, Before, Behind}
+use Rattle.sheet_statuses.specs.declared.Row.{Row}
+use Rattle.sheet_statuses.specs.declared.Row.the-variants as W
+use Rattle.sheet_statuses.specs.Answers.{asUnder, underFault, statusRow, statusKey, withStatus, linesOf, Before, Behind}
 use Rattle.sheet_statuses.proofs.Ends.{under-ends, underKind}
+use Rattle.sheet_statuses.proofs.OneRow.{row-is-left, row-is-off, row-is-on}
 
 -- all that is read with them, and their rows
 abbrev whole : Bool → List ℕ → HeadsRead → Got M.Heads
@@ -193,25 +197,25 @@ module _ (s key : List ℕ) (before : HeadsRead) (miles : Bool) (mile stage firs
         going-row (i .going) (tail miles hd) (rows miles hd) count (counted _ _ (i .going .is) .4) statusLimit (h .stages + h .miles)
         (omega (arith, size-is)) v o rest (rw (i .key-is) at read)
 
-    pub statuses-left : (k : ℕ) → o ≡ R.Left k → (f : ℕ) → f ≡ leftWith o → (l : ℕ) → l ≡ line → (r : HeadsRead) → r ≡ told f l at h
+    one-left : (k : ℕ) → o ≡ R.Left k → (f : ℕ) → f ≡ leftWith o → (l : ℕ) → l ≡ line → (r : HeadsRead) → r ≡ told f l at h
         → r ≡ asHeadsRead s (whole miles s before)
-    statuses-left k e f g l z r q = rw (q, g, e, z) (rw e at row)
+    one-left k e f g l z r q = rw (q, g, e, z) (rw e at row)
 
     module _ (w : Kept) (k : ℕ) (e : o ≡ R.Name w k) where
       begun : RowTold (i .going) (tail miles hd) count (R.Name w k)
       begun = rw e at row
 
-      pub statuses-room : Fits w64 (at + k)
-      statuses-room = omega (arith, begun .1 .within, i .small)
+      one-room : Fits w64 (at + k)
+      one-room = omega (arith, begun .1 .within, i .small)
 
-      pub statuses-index : h .stages + h .miles < statusLimit
-      statuses-index = omega (arith, begun .0 .room, size-is)
+      one-index : h .stages + h .miles < statusLimit
+      one-index = omega (arith, begun .0 .room, size-is)
 
-      pub statuses-names : count < nameRoom
-      statuses-names = omega (arith, statuses-index, i .going .counts)
+      one-names : count < nameRoom
+      one-names = omega (arith, one-index, i .going .counts)
 
-      pub statuses-less : statusLimit - (h .stages + stage + (h .miles + mile)) < statusLimit - (h .stages + h .miles)
-      statuses-less = omega (arith, statuses-index, i .counts)
+      one-less : statusLimit - (h .stages + stage + (h .miles + mile)) < statusLimit - (h .stages + h .miles)
+      one-less = omega (arith, one-index, i .counts)
 
       module _ (t : List ℕ) (p : Under) (from : t ≡ drop (at + k) s)
           (asked : p ≡ asUnder t (under (take (h .fields + h .events + h .stages - (h .fields + h .events))
@@ -225,9 +229,9 @@ module _ (s key : List ℕ) (before : HeadsRead) (miles : Bool) (mile stage firs
             rw (stages-known h hd (i .going .is) (i .going .plain) (h .fields + h .events) (h .fields + h .events + h .stages) (omega arith)
             (omega arith)) at asked
 
-        pub statuses-wrong : (n : ℕ) → p ≡ U.Refused n → (f : ℕ) → f ≡ underFault p → (l : ℕ) → l ≡ line → (r : HeadsRead) → r ≡ refusal f l
+        one-wrong : (n : ℕ) → p ≡ U.Refused n → (f : ℕ) → f ≡ underFault p → (l : ℕ) → l ≡ line → (r : HeadsRead) → r ≡ refusal f l
             → r ≡ asHeadsRead s (whole miles s before)
-        statuses-wrong n given f g l z r q =
+        one-wrong n given f g l z r q =
             q ∙ rw (z, g, given, left-off underKind (under-ends stages) _ (begun .1) t from p ended n (ap (underKind .size) given))
 
         module _ (u j : ℕ) (given : p ≡ U.Stage u j) where
@@ -238,18 +242,18 @@ module _ (s key : List ℕ) (before : HeadsRead) (miles : Bool) (mile stage firs
           code-is : u ≡ underCode (placed .value)
           code-is = let same = placed .same in cc
 
-          pub statuses-end : Fits w64 (at + k + j)
-          statuses-end = omega (arith, placed .left .within, i .small)
+          one-end : Fits w64 (at + k + j)
+          one-end = omega (arith, placed .left .within, i .small)
 
-          pub statuses-byte : Fits w8 u
+          one-byte : Fits w8 u
           unfolding statusNames
-          statuses-byte =
+          one-byte =
               omega (arith, code-is, placed .holds .0, length-map (hd .stages) (λ (x : Status). x .name), counted _ _ (i .going .is), i .going .counts)
 
-          pub statuses-more : (at′ : ℕ) → at′ ≡ at + k + j → (ns : List ℕ) → ns ≡ putIn (h .names) count w
+          one-more : (at′ : ℕ) → at′ ≡ at + k + j → (ns : List ℕ) → ns ≡ putIn (h .names) count w
               → Statuses s key before miles mile stage first (tabled (h .model) (h .fields) (h .events) (h .stages + stage) (h .miles + mile) ns (h .carried)
               (h .carries) (set (h .under) (h .stages + h .miles) u)) at′
-          statuses-more at′ y ns p =
+          one-more at′ y ns p =
               let g = i .going in
               let a : Status = record { name = begun .0 .name; under = placed .value } in
               let c = counted _ _ (g .is) in
@@ -262,13 +266,63 @@ module _ (s key : List ℕ) (before : HeadsRead) (miles : Bool) (mile stage firs
                 key-is = i .key-is;
                 counts = i .counts;
                 going =
-                    going-more g (begun .0) statuses-names (withStatus miles hd a) (behind-row hd a miles (g .late)) one (names-row hd a miles (g .late)) at′
+                    going-more g (begun .0) one-names (withStatus miles hd a) (behind-row hd a miles (g .late)) one (names-row hd a miles (g .late)) at′
                     (before .line + (h .stages + stage + (h .miles + mile) - first)) (omega (arith, placed .holds .1)) (omega (arith, i .since, i .counts))
                     (rw y (placed .left)) _
-                    (λ e. heads-row hd a miles (g .late) h (g .is) u (h .stages + h .miles) mile stage code-is x-is statuses-index (i .counts .0)
+                    (λ e. heads-row hd a miles (g .late) h (g .is) u (h .stages + h .miles) mile stage code-is x-is one-index (i .counts .0)
                     (i .counts .1) ns (p ∙ e))
-                    (plain-row hd a miles (g .late) (omega (arith, x-is, statuses-index)) (g .plain));
+                    (plain-row hd a miles (g .late) (omega (arith, x-is, one-index)) (g .plain));
               }
+
+  -- by the row's answer
+  module _ (v : List ℕ) (r : Row) (rest : v ≡ drop at s) (read : r ≡ statusRow key (leb statusLimit (h .stages + h .miles)) (namesIn (h .names)) count
+      (h .fields + h .events) (h .fields + h .events + h .stages) v) where
+    behind : (k : ℕ) → drop k v ≡ drop (at + k) s
+    behind k = rw (rest, drop-drop k at s)
+
+    abbrev name-read : RowName
+    name-read = rowName key (leb statusLimit (h .stages + h .miles)) (take count (namesIn (h .names))) v
+
+    pub statuses-left : (k : ℕ) → r ≡ W.Left k → (l : ℕ) → l ≡ line → (q : HeadsRead) → q ≡ told k l at h → q ≡ asHeadsRead s (whole miles s before)
+    statuses-left k e l z q is =
+        let o = row-is-left _ _ _ _ _ _ v r read k e in
+        one-left v name-read rest refl k o k (sym (ap leftWith o)) l z q is
+
+    pub statuses-wrong : (n : ℕ) → r ≡ W.Refused n → (l : ℕ) → l ≡ line → (q : HeadsRead) → q ≡ refusal n l → q ≡ asHeadsRead s (whole miles s before)
+    statuses-wrong n e l z q is =
+        let (w, k, o, p) = row-is-off _ _ _ _ _ _ v r read n e in
+        one-wrong v name-read rest refl w k o (drop k v) _ (behind k) refl n p n (sym (ap underFault p)) l z q is
+
+    module _ (w : Kept) (k u j : ℕ) (e : r ≡ W.Status w k u j) where
+      named : name-read ≡ R.Name w k
+      named = row-is-on _ _ _ _ _ _ v r read w k u j e .0
+
+      placed-at : asUnder (drop k v) (under (take (h .fields + h .events + h .stages - (h .fields + h .events)) (drop (h .fields + h .events)
+          (namesIn (h .names)))) 0 (drop k v)) ≡ U.Stage u j
+      placed-at = row-is-on _ _ _ _ _ _ v r read w k u j e .1
+
+      pub statuses-room : (n : ℕ) → n ≡ at + k → Fits w64 n
+      statuses-room n z = rw z (one-room v name-read rest refl w k named)
+
+      pub statuses-index : h .stages + h .miles < statusLimit
+      statuses-index = one-index v name-read rest refl w k named
+
+      pub statuses-names : count < nameRoom
+      statuses-names = one-names v name-read rest refl w k named
+
+      pub statuses-less : statusLimit - (h .stages + stage + (h .miles + mile)) < statusLimit - (h .stages + h .miles)
+      statuses-less = one-less v name-read rest refl w k named
+
+      pub statuses-end : (n : ℕ) → n ≡ at + k + j → Fits w64 n
+      statuses-end n z = rw z (one-end v name-read rest refl w k named (drop k v) _ (behind k) refl u j placed-at)
+
+      pub statuses-byte : Fits w8 u
+      statuses-byte = one-byte v name-read rest refl w k named (drop k v) _ (behind k) refl u j placed-at
+
+      pub statuses-more : (at′ : ℕ) → at′ ≡ at + k + j → (ns : List ℕ) → ns ≡ putIn (h .names) count w
+          → Statuses s key before miles mile stage first (tabled (h .model) (h .fields) (h .events) (h .stages + stage) (h .miles + mile) ns (h .carried)
+          (h .carries) (set (h .under) (h .stages + h .miles) u)) at′
+      statuses-more = one-more v name-read rest refl w k named (drop k v) _ (behind k) refl u j placed-at
 
 pub ruleset statusing = (
   statuses-start,

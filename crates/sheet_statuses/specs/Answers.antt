@@ -1,18 +1,26 @@
 -- What the code answers for the end of a status's line, and stages and miles alike.
-use Prim.Native.Nat.{ℕ, suc}
+use Prim.Native.Nat.{ℕ, suc, _-_}
 use mathlib.Core.Bool.{Bool, true, false}
 use mathlib.Core.List.{List}
 use mathlib.Core.Option.{Option}
+use lib.ListN.{take, drop}
 use Rattle.meaning.specs.Text.{text}
 use Rattle.meaning.specs.Refusal.{LINE}
 use Rattle.meaning.specs.Reading.{Got, Reader}
+use Rattle.meaning.specs.Name as M
 use Rattle.meaning.specs.Sheet.{Heads, Status, withStage, withMile}
-use Rattle.meaning.specs.ReadSheet.{statusLines}
+use Rattle.meaning.specs.ReadSheet.{under, statusLines}
 use Rattle.theory.specs.Reading.Answer.{asRead}
 use Rattle.theory.specs.Papers.Formed.{NoStages, NoMiles}
+use Rattle.name.specs.declared.Name.{Name}
 use Rattle.sheet_tables.specs.Heads.{underCode}
+use Rattle.sheet_section.specs.declared.RowName.{RowName}
+use Rattle.sheet_section.specs.declared.RowName.the-variants as R
+use Rattle.sheet_section.specs.Answers.{rowName}
 use Rattle.sheet_statuses.specs.declared.Under.{Under}
 use Rattle.sheet_statuses.specs.declared.Under.the-variants as U
+use Rattle.sheet_statuses.specs.declared.Row.{Row}
+use Rattle.sheet_statuses.specs.declared.Row.the-variants as W
 
 -- the line's end behind n bytes, or LINE where another byte stands
 abbrev pub closedAt : Bool → ℕ → ℕ → Under
@@ -27,6 +35,21 @@ asUnder = asRead (λ o n. U.Stage (underCode o) n) U.Refused
 abbrev pub underFault : Under → ℕ
 underFault (U.Stage u n) = 0
 underFault (U.Refused k) = k
+
+-- a row whose name took k bytes, by its end
+abbrev pub ended : Name → ℕ → Under → Row
+ended w k (U.Stage u j) = W.Status w k u j
+ended w k (U.Refused n) = W.Refused n
+
+-- a row, by its name, and its end behind so many bytes
+abbrev pub joined : RowName → (ℕ → Under) → Row
+joined (R.Name w k) f = ended w k (f k)
+joined (R.Left k) f = W.Left k
+
+-- the next row of a section: a name that is none of the first n, and behind it a stage or none, and the line's end
+unfoldable pub statusRow : List ℕ → Bool → List M.Name → ℕ → ℕ → ℕ → List ℕ → Row
+statusRow key full names n from to t =
+    joined (rowName key full (take n names) t) (λ k. asUnder (drop k t) (under (take (to - from) (drop from names)) 0 (drop k t)))
 
 -- STAGES AND MILES are read alike: `true` for miles
 

@@ -10,8 +10,9 @@ ghost use Rattle.theory.specs.Papers.Formed.{NoStages, NoMiles};
 ghost use Rattle.name.specs.Names.{namesIn};
 ghost use Rattle.sheet_section.specs.Answers.{asHeadsRead, soFar};
 ghost use Rattle.sheet_section.specs.Held.{Started};
-ghost use Rattle.sheet_statuses.specs.Answers.{closedAt, asUnder, underFault, statusKey, linesOf, Before};
+ghost use Rattle.sheet_statuses.specs.Answers.{closedAt, asUnder, underFault, statusKey, linesOf, Before, statusRow};
 use name::Known;
+use name::Name;
 use sheet_section::HeadsRead;
 use sheet_section::RowName;
 
@@ -54,6 +55,37 @@ fn under_fault(p: Under) -> u8
     }
 }
 
+// The row of a status: its name, how many bytes its key and that took, under which stage it stands, as the tables have it, and how many bytes that and LF took;
+// or with which number the section is left, 0 where no row stands; or the number of the refusal of the line's end.
+enum Row {
+    Status(Name, usize, usize, usize),
+    Left(u8),
+    Refused(u8),
+}
+
+// The next row. The name is none of the first `n`, and the stages are the names from `from` up to `to`. `full`: there is no room for a row.
+fn status_row(
+    t: &[u8],
+    key: &[u8],
+    full: bool,
+    names: &[u64],
+    n: usize,
+    from: usize,
+    to: usize,
+) -> Row
+    ensures { λ r. ⌜ r ≡ statusRow (now (key .entry)) full (namesIn (now (names .entry))) n from to (now (t .entry)) ⌝ }
+{
+    let o = sheet_section::row_name(t, key, full, names, n);
+    let RowName::Name(w, k) = o else {
+        return Row::Left(sheet_section::left_with(o));
+    };
+    let p = under_end(text::rest(t, k), names, from, to);
+    let Under::Stage(u, j) = p else {
+        return Row::Refused(under_fault(p));
+    };
+    Row::Status(w, k, u, j)
+}
+
 fn one_if(b: bool) -> usize
     ensures { λ r. ⌜ r ≡ cond b 1 0 ⌝ }
 {
@@ -81,20 +113,27 @@ fn read_statuses(s: &[u8], before: HeadsRead, key: &[u8], miles: bool) -> HeadsR
         let x = h.stages + h.miles;
         let n = from + x;
         let line = before.line + (x - first);
-        let o = sheet_section::row_name(text::rest(s, at), key, limits::STATUSES <= x, &h.names, n);
-        let RowName::Name(w, k) = o else {
-            return sheet_section::answer(sheet_section::left_with(o), line, at, h);
-        };
-        at = at + k;
-        let p = under_end(text::rest(s, at), &h.names, from, from + h.stages);
-        let Under::Stage(u, j) = p else {
-            return sheet_section::refused(under_fault(p), line);
-        };
-        at = at + j;
-        name::put(&mut h.names, n, w);
-        h.under[x] = u as u8;
-        h.stages = h.stages + stage;
-        h.miles = h.miles + mile;
+        let full = limits::STATUSES <= x;
+        let o = status_row(
+            text::rest(s, at),
+            key,
+            full,
+            &h.names,
+            n,
+            from,
+            from + h.stages,
+        );
+        match o {
+            Row::Left(k) => return sheet_section::answer(k, line, at, h),
+            Row::Refused(k) => return sheet_section::refused(k, line),
+            Row::Status(w, k, u, j) => {
+                at = at + k + j;
+                name::put(&mut h.names, n, w);
+                h.under[x] = u as u8;
+                h.stages = h.stages + stage;
+                h.miles = h.miles + mile;
+            }
+        }
     }
 }
 

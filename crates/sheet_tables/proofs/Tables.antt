@@ -6,7 +6,7 @@ use mathlib.Core.Option.{Option, none, some}
 use mathlib.Core.Logic.{inl, inr, ⊎-elim}
 use native.Mathlib.Nat.{add-zero}
 use native.Mathlib.Omega.{arith}
-use lib.ListN.{length, take, drop, getD, length-append, length-map, List·getD-append, List·getD-map}
+use lib.ListN.{length, take, drop, getD, replicate, length-append, length-map, List·getD-append, List·getD-map}
 use lib.Seq.{take-append-seam, drop-append-add, getD-append-add}
 use Rattle.meaning.specs.Text.{In, joined, from}
 use Rattle.meaning.specs.Sheet as M
@@ -17,10 +17,27 @@ use Rattle.theory.specs.Papers.Formed.{Each, UnderIn, StatusIn, EventIn, WellHe
 use Rattle.meaning.specs.Limits.{fieldLimit, eventLimit, statusLimit}
 use Rattle.limits.specs.Sizes.{carriedRoom}
 use Rattle.theory.specs.Lists.Padded.{padded-length, padded-at}
+use Rattle.name.specs.declared.Name.{Name as Kept}
+use Rattle.name.specs.Names.{kept, tableOf}
 use Rattle.name.proofs.Callers.{good-again}
 use Rattle.name.proofs.Tables.{again-each, table-at, table-part}
 use Rattle.sheet_tables.specs.declared.Heads.{Heads}
-use Rattle.sheet_tables.specs.Heads.{padded, underCode, underOf, asHeads, namesAt, eventAt, statusAt, headsOf, Sized}
+use Rattle.sheet_tables.specs.Heads.{padded, underCode, underOf, asHeads, blank, namesAt, eventAt, statusAt, headsOf, Sized}
+
+-- THE TABLES OF A REFUSED SHEET: no name for the model, and the table of no names
+pub blank-heads : (w : Kept) (t : List ℕ) → w ≡ kept [] → t ≡ tableOf []
+    → record {
+      model = w;
+      fields = 0;
+      events = 0;
+      stages = 0;
+      miles = 0;
+      names = t;
+      carried = replicate carriedRoom 0;
+      carries = replicate eventLimit 0;
+      under = replicate statusLimit 0;
+    } ≡ blank
+blank-heads w t e q = rw (e, q)
 
 -- a bound for all members
 mapped-at : {A : Type 0} (f : A → ℕ) (k : ℕ) (xs : List A) (i : ℕ) → ((x : A) → In x xs → f x ≤ k) → getD (map f xs) i 0 ≤ k

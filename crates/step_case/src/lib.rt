@@ -26,14 +26,12 @@ pub fn step_case<'a>(
     ensures answer { λ r. ⌜ r ≡ replyAfter sheet given happening (now (card .entry)) (now (event .entry)) (length (now (out .entry))) ⌝ }
     ensures space { λ r. ⌜ now (out .exit) ≡ spaceWith (now (out .entry)) (textAfter sheet given happening (now (card .entry)) (now (event .entry))) ⌝ }
 {
-    let heads = sheet.heads;
-    let plan = sheet.plan;
-    let under = heads.under;
+    let under = sheet.heads.under;
     let before = given.marks;
     let moment = step_moment::moment_of(given, happening);
-    let after = step_run::run_step(plan, &sheet.words, moment);
+    let after = step_run::run_step(sheet.plan, &sheet.words, moment);
     let marks = after.marks;
-    let written = card_write::write_card(out, heads, event, card, happening, given, marks);
+    let written = card_write::write_card(out, sheet.heads, event, card, happening, given, marks);
     let Written::Bytes(count) = written else {
         return reply::refusal(reply::ROOM, 0, 0);
     };
@@ -42,6 +40,6 @@ pub fn step_case<'a>(
         paper: 0,
         line: 0,
         count,
-        tasks: step_moment::tasks_started(under, heads.stages, before, marks),
+        tasks: step_moment::tasks_started(under, sheet.heads.stages, before, marks),
     }
 }

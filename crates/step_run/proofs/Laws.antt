@@ -1,5 +1,5 @@
 -- Laws of the step's functions: the before test of a node, the mark set, and the run over the nodes.
-use Prim.Native.Nat.{ℕ, suc, _+_, _-_, _/_, _%_, _≤_, _<_, min}
+use Prim.Native.Nat.{ℕ, suc, _+_, _-_, _*_, _/_, _%_, _≤_, _<_, min}
 use mathlib.Core.Path.{_≡_, refl, sym, ap, ap₂, _∙_}
 use mathlib.Core.Bool.{Bool, true, false, not, _&&_, _||_}
 use mathlib.Core.List.{List, [], _∷_, map}
@@ -9,7 +9,10 @@ use native.Mathlib.Decide.{decLe}
 use native.Mathlib.Numerals.{add-one}
 use lib.ListN.{length, length-map, length-take, drop-of-length-le, getD, take, drop, set}
 use lib.Seq.{take-nil, drop-cons, getD-take, set-out}
-use borrow.Author.Tests.{eq-eqb, ne-eqb, not-true, not-false}
+use lib.Dec.{ltb}
+use mir.Val.{Fits}
+use mir.Syntax.{w64}
+use borrow.Author.Tests.{eq-eqb, ne-eqb, ltb-true, ltb-false, not-true, not-false}
 use Rattle.meaning.specs.Text.{any}
 use Rattle.meaning.specs.Step.{rising}
 use Rattle.meaning.specs.Limits.{statusLimit}
@@ -50,18 +53,42 @@ module _ (k x : ℕ) (after : List ℕ) (is : x ≡ k / 2) where
 
 pub ruleset changing = (may-rise, may-fall, mark-out, mark-rise, mark-fall)
 
--- what a test's answer tells, and its contrary
-pub told-yes : {b c : Bool} → b ≡ c → b ≡ true → c ≡ true
-told-yes e t = sym e ∙ t
-
-pub told-no : {b c : Bool} → b ≡ c → b ≡ false → c ≡ false
-told-no e t = sym e ∙ t
-
+-- what the contrary of a test's answer tells
 pub not-told-no : {b c : Bool} → b ≡ c → not b ≡ true → c ≡ false
 not-told-no {b} e t = sym e ∙ not-true b t
 
 pub not-told-yes : {b c : Bool} → b ≡ c → not b ≡ false → c ≡ true
 not-told-yes {b} e t = sym e ∙ not-false b t
+
+-- WHETHER A NODE'S TESTS GO ON
+pub goes-none : (met : Bool) (j end : ℕ) → met ≡ true → false ≡ (not met && ltb j (min end testRoom))
+goes-none met j end t = rw t
+
+pub goes-some : (met : Bool) (j end l : ℕ) → met ≡ false → l ≡ min end testRoom → ltb j l ≡ (not met && ltb j (min end testRoom))
+goes-some met j end l t e = rw (t, e)
+
+pub ruleset going = (goes-none, goes-some)
+
+module _ (met : Bool) (j end : ℕ) (g : Bool) (is : g ≡ (not met && ltb j (min end testRoom))) (t : g ≡ true) where
+  pub goes-below : (met ≡ false) × (j < min end testRoom)
+  goes-below = go met (sym is ∙ t)
+    where
+      go : (b : Bool) → (not b && ltb j (min end testRoom)) ≡ true → (b ≡ false) × (j < min end testRoom)
+      go false e = (refl, ltb-true j (min end testRoom) e)
+      go true e = absurd (let z : _≡_ {A = ℕ} 0 1 = cc in omega arith)
+
+  -- the place is one of the table's, and the next is nearer to the end
+  pub goes-place : j < testRoom
+  goes-place = omega (arith, goes-below .1)
+
+  pub goes-scaled : (n : ℕ) → n ≡ j * 10 → Fits w64 n
+  goes-scaled n z = omega (arith, goes-place)
+
+  pub goes-fits : (n : ℕ) → n ≡ j + 1 → Fits w64 n
+  goes-fits n z = omega (arith, goes-place)
+
+  pub goes-less : (n : ℕ) → n ≡ j + 1 → end - n < end - j
+  goes-less n z = omega (arith, goes-below .1)
 
 -- THE RUN
 
@@ -91,18 +118,11 @@ module _ (ws : List ℕ) (m : Moment) (p : Plan) (nodes : ℕ) where
     pub begun : end ≡ startOf p i
     pub same : runOver ws m p ≡ runFrom ws m p i (drop i Nodes) after
 
-  -- the loop over a node's tests, where the node is the one before place i
-  pub record Testing (after : List ℕ) (end i k last j : ℕ) : Type 0 where
+  -- the loop over a node's tests, where the node is the one before place i; whether one before place j was met
+  pub record Testing (after : List ℕ) (end i k j : ℕ) (met : Bool) : Type 0 where
     pub sized : Sized p nodes
     pub begun : end ≡ startOf p i
-    pub low : last ≡ min end testRoom
-    pub same : runOver ws m p ≡ runFrom ws m p i (drop i Nodes) (setMark (left ws m p after end j) k after)
-
-  -- a test of the node is met
-  pub record Hit (after : List ℕ) (end i k : ℕ) : Type 0 where
-    pub sized : Sized p nodes
-    pub begun : end ≡ startOf p i
-    pub same : runOver ws m p ≡ runFrom ws m p i (drop i Nodes) (setMark true k after)
+    pub same : runOver ws m p ≡ runFrom ws m p i (drop i Nodes) (setMark (met || left ws m p after end j) k after)
 
   pub run-start : {B : Type 0} (f : Test → B) → length (map f (p .rows)) ≡ testRoom → length (p .order) ≡ nodeRoom → nodes ≡ min (p .nodes) nodeRoom
       → Running (m .before) 0 0
@@ -145,52 +165,55 @@ module _ (ws : List ℕ) (m : Moment) (p : Plan) (nodes : ℕ) where
       unfolding setMark
       node-barred t n z = rw (z, add-one) (record { sized = inv .sized; begun = ends; same = this-node false t })
 
-      pub node-open : mayChange (m .before) (getD (p .order) i 0) ≡ true → (n last : ℕ) → n ≡ i + 1 → last ≡ min e testRoom
-          → Testing after e n (getD (p .order) i 0) last end
-      node-open t n last z y = rw (z, add-one) (record { sized = inv .sized; begun = ends; low = y; same = this-node true t })
+      pub node-open : mayChange (m .before) (getD (p .order) i 0) ≡ true → (n : ℕ) → n ≡ i + 1 → Testing after e n (getD (p .order) i 0) end false
+      node-open t n z = rw (z, add-one) (record { sized = inv .sized; begun = ends; same = this-node true t })
 
-  module _ (after : List ℕ) (end i k last j : ℕ) (inv : Testing after end i k last j) where
-    -- no test is left
-    pub rows-over : last ≤ j → Running after end i
-    unfolding any setMark
-    rows-over h = record {
+  module _ (after : List ℕ) (end i k j : ℕ) (met : Bool) (inv : Testing after end i k j met) where
+    -- one was met, and its mark is set
+    pub rows-met : met ≡ true → (a : List ℕ) → a ≡ setMark true k after → Running a end i
+    rows-met t a is = record {
       sized = inv .sized;
       begun = inv .begun;
       same = inv .same
-          ∙ ap (λ c. runFrom ws m p i (drop i Nodes) (setMark c k after)) (ap (any (testMet ws m after)) (rows-none (p .rows) end j (⊎-of (decLe end j))));
+          ∙ ap (λ c. runFrom ws m p i (drop i Nodes) (setMark (c || left ws m p after end j) k after)) t
+          ∙ ap (runFrom ws m p i (drop i Nodes)) (sym is);
     }
-      where
-        ⊎-of : Dec (end ≤ j) → (end ≤ j) ⊎ (length (p .rows) ≤ j)
-        ⊎-of (yes h) = inl h
-        ⊎-of (no n) = inr (omega (arith, inv .low, inv .sized .long))
 
-    module _ (h : j < last) where
-      -- the test at the place
-      next-left : (b : Bool) → testMet ws m after (getD (p .rows) j noTest) ≡ b → left ws m p after end j ≡ b || left ws m p after end (suc j)
-      unfolding any
-      next-left b is =
-          let z : end - j ≡ suc (end - suc j) = omega (arith, inv .low) in
-          ap (any (testMet ws m after)) (ap₂ take z (drop-cons (p .rows) j noTest (omega (arith, inv .low, inv .sized .long))))
-          ∙ ap (λ x. x || left ws m p after end (suc j)) is
-
-      pub row-next : testMet ws m after (getD (p .rows) j noTest) ≡ false → (n : ℕ) → n ≡ j + 1 → Testing after end i k last n
-      row-next t n z = rw (z, add-one) (record {
+    module _ (g : Bool) (tested : g ≡ (not met && ltb j (min end testRoom))) where
+      -- none was, and none is left
+      pub rows-over : g ≡ false → met ≡ false → (a : List ℕ) (e n : ℕ) → a ≡ after → e ≡ end → n ≡ i → Running a e n
+      unfolding any setMark
+      rows-over f t a e n x y z = rw (x, y, z) (record {
         sized = inv .sized;
         begun = inv .begun;
-        low = inv .low;
-        same = inv .same ∙ ap (λ c. runFrom ws m p i (drop i Nodes) (setMark c k after)) (next-left false t);
+        same = inv .same
+            ∙ ap (λ c. runFrom ws m p i (drop i Nodes) (setMark (c || left ws m p after end j) k after)) t
+            ∙ ap (λ c. runFrom ws m p i (drop i Nodes) (setMark c k after)) (ap (any (testMet ws m after)) (rows-none (p .rows) end j (⊎-of (decLe end j))));
       })
+        where
+          passed : min end testRoom ≤ j
+          passed = ltb-false j (min end testRoom) (rw t at (sym tested ∙ f))
 
-      pub row-hit : testMet ws m after (getD (p .rows) j noTest) ≡ true → Hit after end i k
-      row-hit t = record {
-        sized = inv .sized;
-        begun = inv .begun;
-        same = inv .same ∙ ap (λ c. runFrom ws m p i (drop i Nodes) (setMark c k after)) (next-left true t);
-      }
+          ⊎-of : Dec (end ≤ j) → (end ≤ j) ⊎ (length (p .rows) ≤ j)
+          ⊎-of (yes h) = inl h
+          ⊎-of (no n) = inr (omega (arith, passed, inv .sized .long))
 
-  -- the mark is set
-  pub hit-done : (after : List ℕ) (end i k : ℕ) → (a : List ℕ) → a ≡ setMark true k after → Hit after end i k → Running a end i
-  hit-done after end i k a is hit = record { sized = hit .sized; begun = hit .begun; same = hit .same ∙ ap (runFrom ws m p i (drop i Nodes)) (sym is) }
+      -- the test at the place
+      pub row-next : g ≡ true → (b : Bool) → b ≡ testMet ws m after (getD (p .rows) j noTest) → (n : ℕ) → n ≡ j + 1 → Testing after end i k n b
+      unfolding any
+      row-next t b is n z =
+          let h = goes-below met j end g tested t in
+          let more : end - j ≡ suc (end - suc j) = omega (arith, h .1) in
+          let this : left ws m p after end j ≡ b || left ws m p after end (suc j) =
+          ap (any (testMet ws m after)) (ap₂ take more (drop-cons (p .rows) j noTest (omega (arith, h .1, inv .sized .long))))
+          ∙ ap (λ x. x || left ws m p after end (suc j)) (sym is) in
+          rw (z, add-one) (record {
+            sized = inv .sized;
+            begun = inv .begun;
+            same = inv .same
+                ∙ ap (λ c. runFrom ws m p i (drop i Nodes) (setMark (c || left ws m p after end j) k after)) (h .0)
+                ∙ ap (λ c. runFrom ws m p i (drop i Nodes) (setMark c k after)) this;
+          })
 
 -- all nodes are passed; the moment as the code has it, part by part
 pub run-done : (ws : List ℕ) (m : Moment) (p : Plan) (nodes : ℕ) (after : List ℕ) (end i : ℕ)
@@ -198,5 +221,18 @@ pub run-done : (ws : List ℕ) (m : Moment) (p : Plan) (nodes : ℕ) (after : Li
     → after ≡ runOver ws m p
 run-done ws m p nodes after end i inv = run-over ws m p nodes after end i inv
 
-pub ruleset running =
-    (told-yes, told-no, not-told-no, not-told-yes, run-start, run-done, lower-place, node-barred, node-open, rows-over, row-next, row-hit, hit-done)
+pub ruleset running = (
+  not-told-no,
+  not-told-yes,
+  run-start,
+  run-done,
+  lower-place,
+  node-barred,
+  node-open,
+  rows-met,
+  row-next,
+  goes-place,
+  goes-scaled,
+  goes-fits,
+  goes-less,
+)

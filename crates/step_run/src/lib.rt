@@ -1,6 +1,9 @@
 // One step: the statuses after it, node after node of the testing order.
 ghost use mathlib.Core.Path.{_≡_};
-ghost use mathlib.Core.Bool.{true};
+ghost use mathlib.Core.Bool.{true, not, _&&_};
+ghost use Prim.Native.Nat.{min};
+ghost use lib.Dec.{ltb};
+ghost use Rattle.limits.specs.Sizes.{testRoom};
 ghost use Rattle.step_run.specs.Run.{mayChange, setMark, runOver};
 use marks::Marks;
 use step_plan::Plan;
@@ -38,6 +41,16 @@ fn set_mark(k: u8, after: Marks) -> Marks
     set
 }
 
+// No test was met so far, and there is one at the place `j` before `end`.
+fn goes_on(met: bool, j: usize, end: usize) -> bool
+    ensures { λ g. ⌜ g ≡ (not met && ltb j (min end testRoom)) ⌝ }
+{
+    if met {
+        return false;
+    }
+    j < places::lower(end, limits::TESTS)
+}
+
 // The marks after the step: at each node of the plan the first of its tests that is met, with the words of their conditions, sets the mark.
 pub fn run_step(plan: Plan, words: &[u64], moment: Moment) -> After
     ensures { λ r. ⌜ r .marks ≡ runOver (now (words .entry)) moment plan ⌝ }
@@ -57,14 +70,14 @@ pub fn run_step(plan: Plan, words: &[u64], moment: Moment) -> After
         if !may_change(&before, k) {
             continue 'nodes;
         }
-        let last = places::lower(end, limits::TESTS);
-        'rows: while j < last {
+        let mut met = false;
+        'rows: while goes_on(met, j, end) {
             let t = plan.rows[j];
-            if step_test::test_met(t, words, event, &values, &before, &after) {
-                after = set_mark(k, after);
-                continue 'nodes;
-            }
+            met = step_test::test_met(t, words, event, &values, &before, &after);
             j += 1;
+        }
+        if met {
+            after = set_mark(k, after);
         }
     }
     After { marks: after }

@@ -1,4 +1,4 @@
--- Of a sheet that was read: each condition is one that the machine values rightly, and the words of all fit an array of 1,024.
+-- Of a sheet that was read: each condition is one that the machine values rightly, and the words of all fit the array for them.
 use Prim.Native.Nat.{ℕ, _+_, _*_, _≤_}
 use mathlib.Core.Path.{_≡_, sym, subst}
 use mathlib.Core.List.{List, [], _∷_, _++_}

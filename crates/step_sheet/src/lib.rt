@@ -9,11 +9,11 @@ pub struct Accepted {
     pub number: u8,
     pub line: usize,
     pub heads: Heads,
-    // The words of all conditions, and how many there are.
-    pub words: [u64; limits::WORDS],
-    pub top: usize,
     // The tests in their testing order, two nodes for each status.
     pub plan: Plan,
+    // How many words all conditions have, and the words.
+    pub top: usize,
+    pub words: [u64; limits::WORDS],
 }
 
 // A refused sheet: its number and line, and blank tables.
@@ -25,8 +25,8 @@ pub fn refused(number: u8, line: usize) -> Accepted
         number,
         line,
         heads: sheet_tables::no_heads(),
-        words: [0; limits::WORDS],
-        top: 0,
         plan: step_plan::plan_tests(graph_tests::no_tests(), order, 0),
+        top: 0,
+        words: [0; limits::WORDS],
     }
 }

@@ -189,10 +189,10 @@ module _ (sh : Sheet) (m : M.Moment) (side : List Bool) (ws : List ℕ) (k : ℕ
               ∙ ap (λ b. heldCode other (cond b (some t) (firstThat sh m side (keep written ts)))) (sym told-holds)
               ∙ ap (λ l. heldCode other (firstThat sh m side l)) (sym (keep-hit written t ts (rw e)))
 
-      stops-more : stops cs ≡ joined (λ t. stopList (t .line) (stop t)) (keep written ts)
+      stops-told-more : stops cs ≡ joined (λ t. stopList (t .line) (stop t)) (keep written ts)
           → stops (tells r ∷ cs) ≡ joined (λ t. stopList (t .line) (stop t)) (keep written (t ∷ ts))
       unfolding stops joined
-      stops-more later = go (eqb (t .line) 0) refl
+      stops-told-more later = go (eqb (t .line) 0) refl
         where
           one : (c : ℕ) (b : Bool) → ltb 1 (c % 10) ≡ b → stops (c ∷ cs) ≡ cond b (c ∷ []) [] ++ stops cs
           one c true e = keep-hit (λ c. ltb 1 (c % 10)) c cs e
@@ -228,4 +228,5 @@ module _ (sh : Sheet) (m : M.Moment) (side : List Bool) (ws : List ℕ) (k : ℕ
   stops-told [] (r ∷ rs) s fits all = absurd s
   stops-told (t ∷ ts) [] s fits all = absurd s
   stops-told (t ∷ ts) (r ∷ rs) s fits all =
-      stops-more t r (s .0) (fits t (inl refl)) (all t (inl refl)) ts (map tells rs) (stops-told ts rs (s .1) (λ q i. fits q (inr i)) (λ q i. all q (inr i)))
+      stops-told-more t r (s .0) (fits t (inl refl)) (all t (inl refl)) ts (map tells rs)
+      (stops-told ts rs (s .1) (λ q i. fits q (inr i)) (λ q i. all q (inr i)))

@@ -1,8 +1,7 @@
 -- `accept` reads the sheet, takes its tests in their testing order and lists them so; CYCLE where there is no order.
 -- Assumes nothing.
 use borrow.Author.Needs.{needs}
-use mathlib.Core.Path.{refl}
-use Rattle.case_sheet.proofs.Laws.{accept-words, accept-fields, accept-events, accept-few, accept-double, accept-cycle, accepting}
+use Rattle.case_sheet.proofs.Laws.{accept-double, accepting}
 use Rattle.case_sheet.proofs.accept.Statement.{statement}
 use Rattle.case_sheet.proofs.accept.Tie as tie
 
@@ -15,17 +14,14 @@ refused-requires c κs = search (needs, accepting)
 returns : tie.Need-returns
 returns c = search (needs, accepting)
 
-add-statuses : tie.Need-add-statuses
-add-statuses c = search (needs, accepting)
-
-rule-line-requires : tie.Need-rule-line-requires
-rule-line-requires c κs = (search accept-fields, search accept-events, search accept-few)
-
 tests-of-requires : tie.Need-tests-of-requires
 tests-of-requires c κs = search (needs, accepting)
 
+add-statuses : tie.Need-add-statuses
+add-statuses c = search (needs, accepting)
+
 slice-aggregate-testing-order : tie.Need-slice-aggregate-testing-order
-slice-aggregate-testing-order c = search (needs, accept-words)
+slice-aggregate-testing-order c = search (needs, accepting)
 
 testing-order-requires : tie.Need-testing-order-requires
 testing-order-requires c κs = search (needs, accepting)
@@ -34,11 +30,7 @@ refused-requires-2 : tie.Need-refused-requires-2
 refused-requires-2 c κs = search (needs, accepting)
 
 returns-2 : tie.Need-returns-2
-returns-2 c =
-    let tested = c .before .before .before .before .before in
-    let left = tested .before .before .before .before .before .before .before in
-    accept-cycle _ _ (left .before .before .read-sheet .ensures) (left .if1 .left) _ refl _ (tested .before .rule-line .ensures) _
-    (tested .tests-of .ensures) _ (c .before .before .before .testing-order .ensures) (c .before .if2 .taken) _ (c .refused2 .ensures)
+returns-2 c = search (needs, accepting)
 
 mul-plan-tests : tie.Need-mul-plan-tests
 mul-plan-tests c = search accept-double
@@ -56,9 +48,8 @@ accept-spec =
     read-sheet-requires
     refused-requires
     returns
-    add-statuses
-    rule-line-requires
     tests-of-requires
+    add-statuses
     slice-aggregate-testing-order
     testing-order-requires
     refused-requires-2

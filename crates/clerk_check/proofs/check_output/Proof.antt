@@ -1,7 +1,6 @@
 -- The sheet's refusal, or what is told of a sheet in order.
 -- Assumes nothing.
 use borrow.Author.Needs.{needs}
-use Rattle.case_sheet.proofs.Laws.{accept-words, accept-fields, accept-events, accept-few}
 use Rattle.desk_rooms.specs.Rooms.{checkRoom}
 use Rattle.desk_rooms.proofs.Callers.{refusal-room}
 use Rattle.clerk_check.proofs.Check.{checking}
@@ -20,17 +19,11 @@ same-length c = search needs
 returns : tie.Need-returns
 returns c = search (needs, checking)
 
-add-statuses : tie.Need-add-statuses
-add-statuses c = search (needs, checking)
-
-rule-line-requires : tie.Need-rule-line-requires
-rule-line-requires c κs = search (accept-fields, accept-events, accept-few)
-
 tests-of-requires : tie.Need-tests-of-requires
 tests-of-requires c κs = search (needs, checking)
 
 slice-aggregate-put-sheet : tie.Need-slice-aggregate-put-sheet
-slice-aggregate-put-sheet c = search (needs, accept-words)
+slice-aggregate-put-sheet c = search (needs, checking)
 
 put-sheet-requires : tie.Need-put-sheet-requires
 put-sheet-requires c κs = search (needs, checking)
@@ -49,8 +42,6 @@ check-output-spec =
     put-refusal-requires
     same-length
     returns
-    add-statuses
-    rule-line-requires
     tests-of-requires
     slice-aggregate-put-sheet
     put-sheet-requires

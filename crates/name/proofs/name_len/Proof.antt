@@ -4,14 +4,14 @@ use borrow.Author.Needs.{needs}
 use mathlib.Core.Path.{_≡_}
 use Prim.Native.Nat.{_+_, _-_, _≤_}
 use lib.ListN.{length}
-use Rattle.name.specs.Packed.{namedIn}
-use Rattle.name.specs.Names.{nameOf, spellRoom}
-use Rattle.name.proofs.Spelt.{measuring, len-full}
+use Rattle.name.specs.Packed.{namedIn, named}
+use Rattle.name.specs.Names.{spellRoom}
+use Rattle.name.proofs.Spelt.{measuring}
 use Rattle.name.proofs.name_len.Statement.{statement}
 use Rattle.name.proofs.name_len.Tie as tie
 
 abbrev Inv-loop : tie.InvT-loop
-Inv-loop n₀ v₀ n v = (n ≤ spellRoom) × (length (nameOf (record { word = v₀ })) ≡ n + length (namedIn (spellRoom - n) v))
+Inv-loop n₀ v₀ n v = (n ≤ spellRoom) × (length (named v₀) ≡ n + length (namedIn (spellRoom - n) v))
 
 abbrev μ-loop : tie.MeasureT-loop
 μ-loop n₀ v₀ n v = spellRoom - n
@@ -32,7 +32,7 @@ loop-again : tie.Need-loop-again Inv-loop μ-loop
 loop-again c = search (needs, measuring)
 
 returns-2 : tie.Need-returns-2 Inv-loop μ-loop
-returns-2 c = (len-full _ _ _ (c .before .loop .inv .1) (c .loop-test .left), c .before .loop .inv .0)
+returns-2 c = search (needs, measuring)
 
 pub name-len-spec : {M : Type 1} → statement M
 name-len-spec =

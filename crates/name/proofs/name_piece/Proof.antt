@@ -1,8 +1,7 @@
 -- `name::name_piece` answers as the meaning reads a name: each refusal is a part of a good name that fails, and behind all of them the name is good.
 -- Assumes nothing.
-use native.Mathlib.Omega.{arith}
 use borrow.Author.Needs.{needs}
-use Rattle.name.proofs.Pieces.{name-piece-returns, piece-long}
+use Rattle.name.proofs.Pieces.{name-piece-returns}
 use Rattle.name.proofs.name_piece.Statement.{statement}
 use Rattle.name.proofs.name_piece.Tie as tie
 
@@ -22,7 +21,7 @@ name-run-requires : tie.Need-name-run-requires
 name-run-requires c κs = search (needs, name-piece-returns)
 
 returns-3 : tie.Need-returns-3
-returns-3 c = piece-long _ (c .before .before .before .before .before .if1 .left) _ (c .before .name-run .ensures) (omega arith)
+returns-3 c = search (needs, name-piece-returns)
 
 pack-requires : tie.Need-pack-requires
 pack-requires c κs = search (needs, name-piece-returns)

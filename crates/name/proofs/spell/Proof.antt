@@ -3,12 +3,12 @@
 use borrow.Author.Needs.{needs}
 use Prim.Native.Nat.{_-_}
 use Rattle.name.specs.Names.{spellRoom}
-use Rattle.name.proofs.Spelt.{Begun, spelling, spell-full}
+use Rattle.name.proofs.Spelt.{Begun, spelling}
 use Rattle.name.proofs.spell.Statement.{statement}
 use Rattle.name.proofs.spell.Tie as tie
 
 abbrev Inv-loop : tie.InvT-loop
-Inv-loop bytes₀ n₀ v₀ bytes n v = Begun (record { word = v₀ }) bytes n v
+Inv-loop bytes₀ n₀ v₀ bytes n v = Begun v₀ bytes n v
 
 abbrev μ-loop : tie.MeasureT-loop
 μ-loop bytes₀ n₀ v₀ bytes n v = spellRoom - n
@@ -35,7 +35,7 @@ loop-again : tie.Need-loop-again Inv-loop μ-loop
 loop-again c = search (needs, spelling)
 
 returns-2 : tie.Need-returns-2 Inv-loop μ-loop
-returns-2 c = spell-full _ _ _ _ (c .before .loop .inv) (c .loop-test .left)
+returns-2 c = search (needs, spelling)
 
 pub spell-spec : {M : Type 1} → statement M
 spell-spec =

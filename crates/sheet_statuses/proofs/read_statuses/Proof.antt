@@ -1,7 +1,8 @@
+-- The statuses are those of the section: at each turn the rest of the section begins at `at`, behind the statuses in the tables. Assumes nothing.
 use borrow.Author.Needs.{needs}
 use Prim.Native.Nat.{_+_, _-_}
 use Rattle.meaning.specs.Limits.{statusLimit}
-use Rattle.sheet_statuses.proofs.Statuses.{Statuses, statusing, statuses-wrong, statuses-end, statuses-less}
+use Rattle.sheet_statuses.proofs.Statuses.{Statuses, statusing, statuses-room, statuses-end, statuses-byte, statuses-less}
 use Rattle.sheet_statuses.proofs.read_statuses.Statement.{statement}
 use Rattle.sheet_statuses.proofs.read_statuses.Tie as tie
 
@@ -44,17 +45,14 @@ add-line c = search (needs, statusing)
 rest-requires : tie.Need-rest-requires Inv-loop μ-loop
 rest-requires c κs = search (needs, statusing)
 
-row-name-requires : tie.Need-row-name-requires Inv-loop μ-loop
-row-name-requires c κs = search (needs, statusing)
+add-status-row : tie.Need-add-status-row Inv-loop μ-loop
+add-status-row c = search (needs, statusing)
+
+status-row-requires : tie.Need-status-row-requires Inv-loop μ-loop
+status-row-requires c κs = search (needs, statusing)
 
 enum-known-o : tie.Need-enum-known-o Inv-loop μ-loop
 enum-known-o c = search (needs, statusing)
-
-enum-told : tie.Need-enum-told Inv-loop μ-loop
-enum-told c = search (needs, statusing)
-
-left-with-requires : tie.Need-left-with-requires Inv-loop μ-loop
-left-with-requires c κs = search (needs, statusing)
 
 answer-requires : tie.Need-answer-requires Inv-loop μ-loop
 answer-requires c κs = search (needs, statusing)
@@ -62,48 +60,29 @@ answer-requires c κs = search (needs, statusing)
 returns-2 : tie.Need-returns-2 Inv-loop μ-loop
 returns-2 c = search (needs, statusing)
 
-add-at : tie.Need-add-at Inv-loop μ-loop
-add-at c = search (needs, statusing)
-
-rest-requires-2 : tie.Need-rest-requires-2 Inv-loop μ-loop
-rest-requires-2 c κs = search (needs, statusing)
-
-add-under-end : tie.Need-add-under-end Inv-loop μ-loop
-add-under-end c = search (needs, statusing)
-
-under-end-requires : tie.Need-under-end-requires Inv-loop μ-loop
-under-end-requires c κs = search (needs, statusing)
-
-enum-known-p : tie.Need-enum-known-p Inv-loop μ-loop
-enum-known-p c = search (needs, statusing)
-
-enum-told-2 : tie.Need-enum-told-2 Inv-loop μ-loop
-enum-told-2 c = search (needs, statusing)
-
-under-fault-requires : tie.Need-under-fault-requires Inv-loop μ-loop
-under-fault-requires c κs = search (needs, statusing)
+enum-known-o-2 : tie.Need-enum-known-o-2 Inv-loop μ-loop
+enum-known-o-2 c = search (needs, statusing)
 
 refused-requires : tie.Need-refused-requires Inv-loop μ-loop
 refused-requires c κs = search (needs, statusing)
 
 returns-3 : tie.Need-returns-3 Inv-loop μ-loop
-returns-3 c = search (
-  needs,
-  statuses-wrong _ _ _ _ _ _ _ _ _
-      (c .before .before .before .before .before .before .before .before .before .before .before .before .before .before .before .before .before
-      .before .loop .inv) _ _
-      (c .before .before .before .before .before .before .before .before .before .before .before .before .before .before .before .before .rest .ensures)
-      (c .before .before .before .before .before .before .before .before .before .before .before .before .row-name .ensures),
-)
+returns-3 c = search (needs, statusing)
+
+enum-known-o-3 : tie.Need-enum-known-o-3 Inv-loop μ-loop
+enum-known-o-3 c = search (needs, statusing)
+
+add-at : tie.Need-add-at Inv-loop μ-loop
+add-at c = search statuses-room
 
 add-at-2 : tie.Need-add-at-2 Inv-loop μ-loop
-add-at-2 c = search (needs, statuses-end)
+add-at-2 c = search statuses-end
 
 put-requires : tie.Need-put-requires Inv-loop μ-loop
 put-requires c κs = search (needs, statusing)
 
 cast-h : tie.Need-cast-h Inv-loop μ-loop
-cast-h c = search (needs, statusing)
+cast-h c = search statuses-byte
 
 element-write-h : tie.Need-element-write-h Inv-loop μ-loop
 element-write-h c = search (needs, statusing)
@@ -115,12 +94,7 @@ add-h-2 : tie.Need-add-h-2 Inv-loop μ-loop
 add-h-2 c = search (needs, statusing)
 
 loop-less : tie.Need-loop-less Inv-loop μ-loop
-loop-less c = search (
-  needs,
-  statuses-less _ _ _ _ _ _ _ _ _
-      (c .before .before .before .before .before .before .before .before .before .before .before .before .before .before .before .before .before
-      .before .before .loop .inv),
-)
+loop-less c = search statuses-less
 
 loop-again : tie.Need-loop-again Inv-loop μ-loop
 loop-again c = search (needs, statusing)
@@ -142,21 +116,16 @@ read-statuses-spec =
     sub-line
     add-line
     rest-requires
-    row-name-requires
+    add-status-row
+    status-row-requires
     enum-known-o
-    enum-told
-    left-with-requires
     answer-requires
     returns-2
-    add-at
-    rest-requires-2
-    add-under-end
-    under-end-requires
-    enum-known-p
-    enum-told-2
-    under-fault-requires
+    enum-known-o-2
     refused-requires
     returns-3
+    enum-known-o-3
+    add-at
     add-at-2
     put-requires
     cast-h

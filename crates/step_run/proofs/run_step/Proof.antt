@@ -3,16 +3,16 @@
 -- Assumes nothing.
 use borrow.Author.Needs.{needs}
 use Prim.Native.Nat.{_-_}
-use Rattle.step_run.proofs.Laws.{Running, Testing, told-yes, not-told-yes, run-done, node-open, row-hit, hit-done, running}
+use Rattle.step_run.proofs.Laws.{Running, Testing, not-told-yes, run-done, node-open, rows-over, running}
 use Rattle.step_run.proofs.run_step.Statement.{statement}
 use Rattle.step_run.proofs.run_step.Tie as tie
 
 abbrev Inv-rows : tie.InvT-rows
-Inv-rows words plan event values before nodes after₀ end i k j₀ last after j =
-    Testing words (record { event = event; values = values; before = before }) plan nodes after end i k last j
+Inv-rows words plan event values before nodes after end i k j₀ met₀ j met =
+    Testing words (record { event = event; values = values; before = before }) plan nodes after end i k j met
 
 abbrev μ-rows : tie.MeasureT-rows
-μ-rows words plan event values before nodes after₀ end i k j₀ last after j = last - j
+μ-rows words plan event values before nodes after end i k j₀ met₀ j met = end - j
 
 abbrev Inv-nodes : tie.InvT-nodes
 Inv-nodes words plan event values before nodes after₀ end₀ i₀ after end i =
@@ -48,17 +48,11 @@ nodes-less c = search (needs, running)
 nodes-again : tie.Need-nodes-again Inv-rows μ-rows Inv-nodes μ-nodes
 nodes-again c = search (needs, running)
 
-lower-requires-2 : tie.Need-lower-requires-2 Inv-rows μ-rows Inv-nodes μ-nodes
-lower-requires-2 c κs = search (needs, running)
-
 rows-holds : tie.Need-rows-holds Inv-rows μ-rows Inv-nodes μ-nodes
 rows-holds c = search (node-open, not-told-yes)
 
-nodes-less-2 : tie.Need-nodes-less-2 Inv-rows μ-rows Inv-nodes μ-nodes
-nodes-less-2 c = search (needs, running)
-
-nodes-again-2 : tie.Need-nodes-again-2 Inv-rows μ-rows Inv-nodes μ-nodes
-nodes-again-2 c = search (needs, running)
+goes-on-requires : tie.Need-goes-on-requires Inv-rows μ-rows Inv-nodes μ-nodes
+goes-on-requires c κs = search (needs, running)
 
 mul-t : tie.Need-mul-t Inv-rows μ-rows Inv-nodes μ-nodes
 mul-t c = search (needs, running)
@@ -69,17 +63,6 @@ element-copy-out-t c = search (needs, running)
 test-met-requires : tie.Need-test-met-requires Inv-rows μ-rows Inv-nodes μ-nodes
 test-met-requires c κs = search (needs, running)
 
-set-mark-requires : tie.Need-set-mark-requires Inv-rows μ-rows Inv-nodes μ-nodes
-set-mark-requires c κs = search (needs, running)
-
-nodes-less-3 : tie.Need-nodes-less-3 Inv-rows μ-rows Inv-nodes μ-nodes
-nodes-less-3 c = search (needs, running)
-
-nodes-again-3 : tie.Need-nodes-again-3 Inv-rows μ-rows Inv-nodes μ-nodes
-nodes-again-3 c =
-    hit-done _ _ _ _ _ _ _ _ _ (c .set-mark .ensures)
-    (row-hit _ _ _ _ _ _ _ _ _ _ (c .before .before .before .before .before .before .before .before .rows .inv) (search) (search told-yes))
-
 add-j : tie.Need-add-j Inv-rows μ-rows Inv-nodes μ-nodes
 add-j c = search (needs, running)
 
@@ -88,6 +71,21 @@ rows-less c = search (needs, running)
 
 rows-again : tie.Need-rows-again Inv-rows μ-rows Inv-nodes μ-nodes
 rows-again c = search (needs, running)
+
+set-mark-requires : tie.Need-set-mark-requires Inv-rows μ-rows Inv-nodes μ-nodes
+set-mark-requires c κs = search (needs, running)
+
+nodes-less-2 : tie.Need-nodes-less-2 Inv-rows μ-rows Inv-nodes μ-nodes
+nodes-less-2 c = search (needs, running)
+
+nodes-again-2 : tie.Need-nodes-again-2 Inv-rows μ-rows Inv-nodes μ-nodes
+nodes-again-2 c = search (needs, running)
+
+nodes-less-3 : tie.Need-nodes-less-3 Inv-rows μ-rows Inv-nodes μ-nodes
+nodes-less-3 c = search (needs, running)
+
+nodes-again-3 : tie.Need-nodes-again-3 Inv-rows μ-rows Inv-nodes μ-nodes
+nodes-again-3 c = search rows-over
 
 returns : tie.Need-returns Inv-rows μ-rows Inv-nodes μ-nodes
 returns c = search run-done
@@ -109,17 +107,17 @@ run-step-spec =
     may-change-requires
     nodes-less
     nodes-again
-    lower-requires-2
     rows-holds
-    nodes-less-2
-    nodes-again-2
+    goes-on-requires
     mul-t
     element-copy-out-t
     test-met-requires
-    set-mark-requires
-    nodes-less-3
-    nodes-again-3
     add-j
     rows-less
     rows-again
+    set-mark-requires
+    nodes-less-2
+    nodes-again-2
+    nodes-less-3
+    nodes-again-3
     returns)

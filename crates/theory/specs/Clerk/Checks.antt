@@ -1,5 +1,5 @@
 -- The check of a sheet: each edge of its graph has the line with which it is told, the circle that is told is one, and the text fits.
-use Prim.Native.Nat.{ℕ, _+_, _/_, _≤_, _<_}
+use Prim.Native.Nat.{ℕ, _+_, _*_, _/_, _≤_, _<_}
 use mathlib.Core.Path.{_≡_, refl, sym, _∙_, ap, subst}
 use mathlib.Core.Bool.{Bool, true, false, true≢false, cond}
 use mathlib.Core.List.{List, [], _∷_, _++_}
@@ -11,7 +11,7 @@ use lib.ListN.{length, length-append, getD, List·getD-append}
 use borrow.Author.Tests.{eq-eqb}
 use Rattle.meaning.specs.Text.{In, isIn, text, joined}
 use Rattle.meaning.specs.Refusal.{taken, refused, CYCLE}
-use Rattle.meaning.specs.Limits.{sheetBytes}
+use Rattle.meaning.specs.Limits.{sheetBytes, nameBytes, statusLimit}
 use Rattle.meaning.specs.Reading.{paper}
 use Rattle.meaning.specs.Number.{decimal}
 use Rattle.meaning.specs.Sheet.{Sheet, Status, statuses, stageOver, leavesOf, leaves}
@@ -163,16 +163,16 @@ count-short : (key : List ℕ) (n : ℕ) → length (countLine key n) ≤ length
 count-short key n = omega (arith, line-length key (decimal n), decimal-few n)
 
 module _ (sh : Sheet) (well : Well sh) where
-  node-short : (k : ℕ) → length (nodeText (sh .heads) k) ≤ 13
+  node-short : (k : ℕ) → length (nodeText (sh .heads) k) ≤ 1 + nameBytes
   unfolding nodeText
   node-short k = go (rising k)
     where
-      go : (b : Bool) → length (cond b (text "+") (text "-") ++ statusName (sh .heads) (k / 2)) ≤ 13
+      go : (b : Bool) → length (cond b (text "+") (text "-") ++ statusName (sh .heads) (k / 2)) ≤ 1 + nameBytes
       go true = omega (arith, status-short (sh .heads) (well .heads) (k / 2))
       go false = omega (arith, status-short (sh .heads) (well .heads) (k / 2))
 
   -- a line of the circle
-  pub edge-short : (e : Edge) → length (circleLine sh e) ≤ 46
+  pub edge-short : (e : Edge) → length (circleLine sh e) ≤ 22 + 2 * nameBytes
   unfolding circleLine
   edge-short e =
       let a = nodeText (sh .heads) (e .from) in
@@ -191,7 +191,7 @@ module _ (sh : Sheet) (well : Well sh) where
       )
 
   -- as many lines as nodes at most
-  pub circle-short : length (refusalText CYCLE 1 0 ++ joined (circleLine sh) (around (circle sh))) ≤ 8192
+  pub circle-short : length (refusalText CYCLE 1 0 ++ joined (circleLine sh) (around (circle sh))) ≤ 41 + 2 * statusLimit * (22 + 2 * nameBytes)
   unfolding circle nodes
   circle-short =
       let c = circle sh in
@@ -200,14 +200,14 @@ module _ (sh : Sheet) (well : Well sh) where
         arith,
         length-append (refusalText CYCLE 1 0) lines,
         refusal-few CYCLE 1 0,
-        joined-most (circleLine sh) 46 (around c) (λ e i. edge-short e),
+        joined-most (circleLine sh) (22 + 2 * nameBytes) (around c) (λ e i. edge-short e),
         around-few c,
         circle-few (nodes (sh .heads)) (predecessors (tests sh)),
         well .heads .statuses-few,
       )
 
   -- the seven lines of a sheet that is accepted
-  pub sheet-short : length (sheetTold sh) ≤ 8192
+  pub sheet-short : length (sheetTold sh) ≤ 113 + nameBytes
   unfolding sheetTold
   sheet-short =
       let hd = sh .heads in

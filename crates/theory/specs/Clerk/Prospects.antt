@@ -11,7 +11,7 @@ use lib.ListN.{length, length-append, length-map, getD}
 use borrow.Author.Tests.{not-true, not-false, eq-eqb, ne-eqb, ltb-true, ltb-false}
 use Rattle.meaning.specs.Text.{In, text, any, keep, joined, from}
 use Rattle.meaning.specs.Refusal.{Answer, taken, refused, MANY}
-use Rattle.meaning.specs.Limits.{partLimit}
+use Rattle.meaning.specs.Limits.{nameBytes, statusLimit, partLimit}
 use Rattle.meaning.specs.Name.{Name}
 use Rattle.meaning.specs.Number.{Value, missing, number-at}
 use Rattle.meaning.specs.Sheet.{statuses, statusNames}
@@ -158,21 +158,21 @@ word-short always = omega arith
 word-short never = omega arith
 word-short still-open = omega arith
 
--- names of at most 12 bytes
+-- names within their limit
 abbrev pub Short : List Name → Type 0
-Short ns = (n : Name) → In n ns → length n ≤ 12
+Short ns = (n : Name) → In n ns → length n ≤ nameBytes
 
-spaced-short : (ns : List Name) → Short ns → length (spaced ns) ≤ length ns * 13
+spaced-short : (ns : List Name) → Short ns → length (spaced ns) ≤ length ns * (nameBytes + 1)
 spaced-short [] h = omega arith
 spaced-short (n ∷ ns) h = omega (
   arith,
   h n (inl refl),
   length-append n (joined (λ m. text " " ++ m) ns),
-  joined-most (λ m. text " " ++ m) 13 ns (λ m i. omega (arith, h m (inr i))),
+  joined-most (λ m. text " " ++ m) (nameBytes + 1) ns (λ m i. omega (arith, h m (inr i))),
 )
 
 -- the lines of the statuses
-words-short : (ps : List ℕ) (x : ℕ) (ns : List Name) → Short ns → length (prospectLines ps x ns) ≤ length ns * 20
+words-short : (ps : List ℕ) (x : ℕ) (ns : List Name) → Short ns → length (prospectLines ps x ns) ≤ length ns * (nameBytes + 8)
 unfolding prospectLines
 words-short ps x [] h = omega arith
 words-short ps x (n ∷ ns) h =
@@ -187,7 +187,7 @@ words-short ps x (n ∷ ns) h =
     )
 
 -- the line of a pattern
-pub pattern-short : (ns : List Name) (p : ℕ) → Short ns → length (patternLine ns p) ≤ 9 + length ns * 13
+pub pattern-short : (ns : List Name) (p : ℕ) → Short ns → length (patternLine ns p) ≤ 9 + length ns * (nameBytes + 1)
 unfolding patternLine
 pattern-short ns p h = omega (
   arith,
@@ -196,14 +196,19 @@ pattern-short ns p h = omega (
   named-few ns p,
 )
 
--- of at most 32 names and 4,096 patterns
-pub prospects-short : (ns : List Name) (ps : List ℕ) → Short ns → length ns ≤ 32 → length ps ≤ 4096 → length (prospectsTold ns (taken ps)) ≤ 1900544
+-- all lines at their longest: one for each status, and one for each pattern with the names of all statuses
+abbrev pub prospectsMost : ℕ
+prospectsMost = statusLimit * (nameBytes + 8) + partLimit * (9 + statusLimit * (nameBytes + 1))
+
+-- of as many names and patterns as there may be
+pub prospects-short : (ns : List Name) (ps : List ℕ) → Short ns → length ns ≤ statusLimit → length ps ≤ partLimit
+    → length (prospectsTold ns (taken ps)) ≤ prospectsMost
 unfolding prospectsTold
 prospects-short ns ps h few all = omega (
   arith,
   length-append (prospectLines ps 0 ns) (joined (patternLine ns) ps),
   words-short ps 0 ns h,
-  joined-most (patternLine ns) 425 ps (λ p i. omega (arith, pattern-short ns p h)),
+  joined-most (patternLine ns) (9 + statusLimit * (nameBytes + 1)) ps (λ p i. omega (arith, pattern-short ns p h)),
 )
 
 -- `outlook=refused`
@@ -240,7 +245,7 @@ patterns-few ts o m =
     let cs = choices (tried ts 0 (m .values)) in
     omega (arith, ascending-few (map f cs), length-map cs f, choices-count ts 0 (m .values))
 
--- "at most 4,096"
+-- and of an outlook that is taken no more than parts may be
 pub outlook-most : (k : Case) (list : List ℕ) → outlook k ≡ taken list → length list ≤ partLimit
 outlook-most k list e = go (ltb partLimit n) refl
   where
@@ -287,13 +292,13 @@ module _ (k : Case) (papers : Papers k) where
       (right, λ w h. prospect-one (tests (k .sheet)) (at k) x p g w (prospect list x) h right)
 
   -- the text of its outlook is not long
-  pub case-prospects-short : length (prospectsTold (statusNames (statuses (k .sheet .heads))) (outlook k)) ≤ 1900544
+  pub case-prospects-short : length (prospectsTold (statusNames (statuses (k .sheet .heads))) (outlook k)) ≤ prospectsMost
   case-prospects-short = go (outlook k) refl
     where
       ns : List Name
       ns = statusNames (statuses (k .sheet .heads))
 
-      go : (a : Answer (List ℕ)) → outlook k ≡ a → length (prospectsTold (statusNames (statuses (k .sheet .heads))) a) ≤ 1900544
+      go : (a : Answer (List ℕ)) → outlook k ≡ a → length (prospectsTold (statusNames (statuses (k .sheet .heads))) a) ≤ prospectsMost
       go (taken list) e = prospects-short ns list (λ n i. good-short n (names-good (k .sheet .heads) (papers .well .heads) n i))
           (omega (arith, names-length (k .sheet .heads) (papers .well .heads), papers .well .heads .statuses-few)) (outlook-most k list e)
       go (refused n p l) e = omega (arith, prospects-refused ns n p l)

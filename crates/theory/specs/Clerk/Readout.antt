@@ -9,6 +9,7 @@ use native.Mathlib.Omega.{arith}
 use native.Mathlib.Nat.{suc-mul}
 use lib.ListN.{length, length-append, length-take, length-drop, getD, drop}
 use Rattle.meaning.specs.Text.{text, joined, from}
+use Rattle.meaning.specs.Limits.{nameBytes, statusLimit, ruleLimit}
 use Rattle.meaning.specs.Name.{Name}
 use Rattle.meaning.specs.Number.{decimal}
 use Rattle.meaning.specs.Sheet.{Heads, Sheet, Rule, statuses, statusNames, stageOver}
@@ -123,13 +124,21 @@ lines-part s c hd l (r ∷ rs) = omega (arith, line-between l s, lines-part s c 
 
 -- WHAT IS READ OUT
 
+-- what is told beside a rule line's own bytes at its longest: the name of the status and the words
+abbrev pub besideRule : ℕ
+besideRule = 40 + nameBytes
+
+-- and a closing: two names and the words
+abbrev pub closingTold : ℕ
+closingTold = 21 + 2 * nameBytes
+
 -- names are short
-name-short : (ns : List Name) → Each Good ns → (x : ℕ) → length (getD ns x []) ≤ 12
+name-short : (ns : List Name) → Each Good ns → (x : ℕ) → length (getD ns x []) ≤ nameBytes
 name-short [] h x = omega arith
 name-short (n ∷ ns) h zero = good-short n (h n (inl refl))
 name-short (n ∷ ns) h (suc x) = name-short ns (λ m i. h m (inr i)) x
 
-pub status-short : (hd : Heads) → WellHeads hd → (x : ℕ) → length (statusName hd x) ≤ 12
+pub status-short : (hd : Heads) → WellHeads hd → (x : ℕ) → length (statusName hd x) ≤ nameBytes
 unfolding statusName
 status-short hd well = name-short (statusNames (statuses hd)) (names-good hd well)
 
@@ -149,10 +158,10 @@ module _ (s : List ℕ) (k : Case) (papers : Papers k) where
   abbrev hd : Heads
   hd = k .sheet .heads
 
-  short : (x : ℕ) → length (statusName hd x) ≤ 12
+  short : (x : ℕ) → length (statusName hd x) ≤ nameBytes
   short = status-short hd (papers .well .heads)
 
-  over-short : (p : Option ℕ) → length (overName hd p) ≤ 12
+  over-short : (p : Option ℕ) → length (overName hd p) ≤ nameBytes
   over-short none = omega arith
   over-short (some p) = short p
 
@@ -172,7 +181,7 @@ module _ (s : List ℕ) (k : Case) (papers : Papers k) where
         words-short w,
       )
 
-  parent-short : (name : Name) → length name ≤ 12 → length (parentTold name) ≤ 28
+  parent-short : (name : Name) → length name ≤ nameBytes → length (parentTold name) ≤ 16 + nameBytes
   unfolding parentTold
   parent-short name h = omega (
     arith,
@@ -183,7 +192,7 @@ module _ (s : List ℕ) (k : Case) (papers : Papers k) where
   )
 
   -- behind the sign and the name of its status
-  line-short : (x l : ℕ) (w : Kind) → length (whyLine s k (record { status = x; line = l; kind = w })) ≤ 17 + length (kindTold s hd x l w)
+  line-short : (x l : ℕ) (w : Kind) → length (whyLine s k (record { status = x; line = l; kind = w })) ≤ 5 + nameBytes + length (kindTold s hd x l w)
   unfolding whyLine
   line-short x l w =
       let sign = changeSign (is (k .card .statuses) x) in
@@ -197,7 +206,7 @@ module _ (s : List ℕ) (k : Case) (papers : Papers k) where
       )
 
   -- all that is read out, of a sheet of so many bytes
-  pub why-short : length (joined (whyLine s k) (reasonsIn k)) ≤ 8320 + length s
+  pub why-short : length (joined (whyLine s k) (reasonsIn k)) ≤ ruleLimit * besideRule + statusLimit * closingTold + length s
   unfolding reasonsIn moment ruleLine
   why-short =
       let w : Reason → ℕ = λ r. length (whyLine s k r) in
@@ -207,12 +216,13 @@ module _ (s : List ℕ) (k : Case) (papers : Papers k) where
       omega (
         arith,
         joined-total w (whyLine s k) (λ r. omega arith) (reasonsIn k),
-        reasons-most (k .sheet) (at k) (after k) w (λ l. 52 + length (lineAt l s)) 52
+        reasons-most (k .sheet) (at k) (after k) w (λ l. besideRule + length (lineAt l s)) closingTold
             (λ x l. omega (arith, line-short x l held, rule-short (statusName hd x) l held))
             (λ x l o. omega (arith, line-short x l (stopped o), rule-short (statusName hd x) l (stopped o)))
             (λ x l. omega (arith, line-short x l closed, parent-short (overName hd (stageOver hd x)) (over-short (stageOver hd x)))),
-        subst (λ l. total (λ (t : Test). 52 + length (lineAt (t .line) s)) (ruleTests hd l rs) ≤ length rs * 52 + length (behindLines above s)) (sym first)
-            (lines-part s 52 hd above rs),
+        subst
+            (λ l. total (λ (t : Test). besideRule + length (lineAt (t .line) s)) (ruleTests hd l rs) ≤ length rs * besideRule + length (behindLines above s))
+            (sym first) (lines-part s besideRule hd above rs),
         behind-short above s,
         papers .well .rules-few,
         papers .well .heads .statuses-few,

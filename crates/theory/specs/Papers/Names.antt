@@ -88,7 +88,7 @@ module _ (x : ℕ) (w : Name) (h : Good (x ∷ w)) where
   unfolding goodName
   good-parts = parts (letter x) (eqb (run nameByte (x ∷ w)) (suc (length w))) (leb (suc (length w)) nameBytes) (not (among (x ∷ w) reserved)) h
 
--- a good name has at most 12 bytes
+-- a good name is within its limit
 pub good-short : (w : Name) → Good w → length w ≤ nameBytes
 unfolding goodName
 good-short [] h = absurd (false≢true h)
