@@ -22,9 +22,8 @@ use Rattle.marks.specs.Codes.{isYes}
 use Rattle.case_tables.specs.declared.Card.{Card}
 use Rattle.case_tables.specs.declared.Happening.{Happening}
 use Rattle.card_write.specs.Texts.{part, shownBy, sameField, carriedIn, valueText}
-use Rattle.space.specs.Answers.{Wrote}
+use Rattle.theory.specs.Writing.Lent.{Wrote, Left, left-start, left-room, left-more, left-end, left-long}
 use Rattle.card_write.specs.Lines.{markAt, linesFrom, fieldRoom}
-use Rattle.space.proofs.Laws.{Left, left-start, left-room, left-more, left-end, left-long}
 
 -- THE TEXT OF A FIELD
 

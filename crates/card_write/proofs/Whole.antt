@@ -15,6 +15,7 @@ use Rattle.meaning.specs.Write.{line, lines, mark, cardText}
 use Rattle.theory.specs.Lists.Members.{from-length}
 use Rattle.theory.specs.Writing.ReadBack.{line-length}
 use Rattle.limits.specs.Sizes.{nameRoom}
+use Rattle.name.specs.declared.Name.{Name as Kept}
 use Rattle.name.specs.Names.{nameOf, namesIn, partOf, tableWords}
 use Rattle.name.proofs.Tables.{table-length, part-names}
 use Rattle.marks.specs.Codes.{isYes}
@@ -23,8 +24,7 @@ use Rattle.sheet_tables.specs.Heads.{headsOf, Sized}
 use Rattle.sheet_tables.proofs.Names.{model-is, fields-are, statuses-are}
 use Rattle.case_tables.specs.declared.Card.{Card}
 use Rattle.case_tables.specs.declared.Happening.{Happening}
-use Rattle.space.specs.Answers.{Wrote}
-use Rattle.space.proofs.Laws.{wrote-room, wrote-both}
+use Rattle.theory.specs.Writing.Lent.{Wrote, wrote-room, wrote-both}
 use Rattle.card_write.specs.declared.Written.the-variants.{Bytes, Room}
 use Rattle.card_write.specs.Texts.{showing, valueText, nextText}
 use Rattle.card_write.specs.Lines.{markAt, linesFrom, headText, tailText}
@@ -50,6 +50,80 @@ unfolding lines linesFrom
 marks-lines [] ms h = refl
 marks-lines (n ∷ ns) [] h = absurd (omega arith)
 marks-lines (n ∷ ns) (m ∷ ms) h = ap (λ r. line n (mark (isYes m)) ++ r) (marks-lines ns ms (omega arith) ∙ lines-earlier (markAt (m ∷ ms)) ns 0)
+
+-- THE FIRST HALF
+module _ (model : Kept) (p event card : List ℕ) (e : Happening) (c : Card) where
+  abbrev first : List ℕ
+  first = line (text "case") (nameOf model)
+
+  abbrev fields : List ℕ
+  fields = linesFrom (valueText event card e c) (namesIn p) 0
+
+  -- measured
+  pub head-long : (m b : ℕ) → m ≡ length (nameOf model) → b ≡ length fields → (r : ℕ) → r ≡ m + 6 + b
+      → r ≡ length (headText (nameOf model) (namesIn p) event card e c)
+  unfolding headText
+  head-long m b x y r z = omega (arith, length-append first fields, line-length (text "case") (nameOf model))
+
+  -- written
+  module _ (o : List ℕ) (fits : length (headText (nameOf model) (namesIn p) event card e c) ≤ length o) where
+    within : 0 + length (first ++ fields) ≤ length o
+    unfolding headText
+    within = omega (arith, fits)
+
+    pub head-case : length (line (text "case") (nameOf model)) ≤ length o
+    head-case = omega (arith, within, length-append first fields)
+
+    module _ (o1 : List ℕ) (a : ℕ) (y : Wrote 0 (line (text "case") (nameOf model)) o o1 a) where
+      pub head-fields : a + length (linesFrom (valueText event card e c) (namesIn p) 0) ≤ length o1
+      head-fields = wrote-room 0 first fields o o1 a within y
+
+      pub head-done : (o2 : List ℕ) (r : ℕ) → Wrote a (linesFrom (valueText event card e c) (namesIn p) 0) o1 o2 r
+          → Wrote 0 (headText (nameOf model) (namesIn p) event card e c) o o2 r
+      unfolding headText
+      head-done o2 r z = wrote-both 0 first fields o o1 a within y o2 r z
+
+pub ruleset heading = (head-long, head-case, head-fields, head-done)
+
+-- THE SECOND HALF
+module _ (p : List ℕ) (f : ℕ) (marks : List ℕ) (n : ℕ) (count : n ≡ length (namesIn p)) where
+  abbrev rows : List ℕ
+  rows = linesFrom (markAt marks) (namesIn p) 0
+
+  abbrev last : List ℕ
+  last = line (text "end") (decimal (f + n))
+
+  tail-is : tailText (namesIn p) f marks ≡ rows ++ last
+  unfolding tailText
+  tail-is = rw (← count)
+
+  pub lines-few : length (namesIn p) ≤ statusLimit → f ≤ fieldLimit → (k : ℕ) → k ≡ f + n → k < 100
+  lines-few h g k e = omega arith
+
+  -- measured
+  pub tail-long : (b k : ℕ) → b ≡ length rows → k ≡ length (decimal (f + n)) → (r : ℕ) → r ≡ b + k + 5 → r ≡ length (tailText (namesIn p) f marks)
+  tail-long b k x y r z = rw tail-is (omega (arith, length-append rows last, line-length (text "end") (decimal (f + n))))
+
+  -- written
+  module _ (at : ℕ) (o : List ℕ) (fits : at + length (tailText (namesIn p) f marks) ≤ length o) (o1 : List ℕ) (b : ℕ)
+      (y : Wrote at (linesFrom (markAt marks) (namesIn p) 0) o o1 b) where
+    behind : at + length (rows ++ last) ≤ length o
+    behind = omega (arith, ap length tail-is)
+
+    pub tail-end : (k : ℕ) → k ≡ f + n → b + length (line (text "end") (decimal k)) ≤ length o1
+    tail-end k z = rw z (wrote-room at rows last o o1 b behind y)
+
+    pub tail-done : (k : ℕ) → k ≡ f + n → (o2 : List ℕ) (r : ℕ) → Wrote b (line (text "end") (decimal k)) o1 o2 r
+        → Wrote at (tailText (namesIn p) f marks) o o2 r
+    tail-done k z o2 r x = rw tail-is (wrote-both at rows last o o1 b behind y o2 r (rw z at x))
+
+pub tail-marks : (p : List ℕ) (f : ℕ) (marks : List ℕ) (at : ℕ) (o : List ℕ) → at + length (tailText (namesIn p) f marks) ≤ length o
+    → at + length (linesFrom (markAt marks) (namesIn p) 0) ≤ length o
+unfolding tailText
+tail-marks p f marks at o fits =
+    omega (arith, length-append (linesFrom (markAt marks) (namesIn p) 0) (line (text "end") (decimal (f + length (namesIn p)))))
+
+pub ruleset tailing = (lines-few, tail-long, tail-marks, tail-end, tail-done)
 
 -- THE NAMES OF THE FIELDS AND OF THE STATUSES
 module _ (h : Heads) (sized : Sized h) (long : length (namesIn (h .names)) ≡ nameRoom) where
@@ -88,82 +162,11 @@ module _ (h : Heads) (sized : Sized h) (long : length (namesIn (h .names)) ≡ n
       pub marks-few : length (namesIn p) ≤ statusLimit
       marks-few = omega (arith, ap length marks-part, statuses-many, sized .few-statuses)
 
-  pub lines-few : (n : ℕ) → n ≡ h .stages + h .miles → (k : ℕ) → k ≡ h .fields + n → k < 100
-  lines-few n e k f = omega (arith, sized .few-fields, sized .few-statuses)
+      pub marks-held : (marks : List ℕ) → length marks ≡ statusLimit → length (namesIn p) ≤ length marks
+      marks-held marks held = omega (arith, marks-few)
 
--- THE FIRST HALF
-module _ (h : Heads) (sized : Sized h) (long : length (namesIn (h .names)) ≡ nameRoom) (event card : List ℕ) (e : Happening) (c : Card)
-    (p : List ℕ) (part : p ≡ partOf (h .names) 0 (h .fields)) where
-  abbrev first : List ℕ
-  first = line (text "case") (nameOf (h .model))
-
-  abbrev fields : List ℕ
-  fields = linesFrom (valueText event card e c) (namesIn p) 0
-
-  head-is : headText h event card e c ≡ first ++ fields
-  unfolding headText
-  head-is = rw (fields-part h sized long p part)
-
-  -- measured
-  pub head-long : (m b : ℕ) → m ≡ length (nameOf (h .model)) → b ≡ length fields → (r : ℕ) → r ≡ m + 6 + b → r ≡ length (headText h event card e c)
-  head-long m b x y r z = rw head-is (omega (arith, length-append first fields, line-length (text "case") (nameOf (h .model))))
-
-  -- written
-  module _ (o : List ℕ) (fits : length (headText h event card e c) ≤ length o) (o1 : List ℕ) (a : ℕ)
-      (y : Wrote 0 (line (text "case") (nameOf (h .model))) o o1 a) where
-    within : 0 + length (first ++ fields) ≤ length o
-    within = omega (arith, ap length head-is)
-
-    pub head-fields : a + length (linesFrom (valueText event card e c) (namesIn p) 0) ≤ length o1
-    head-fields = wrote-room 0 first fields o o1 a within y
-
-    pub head-done : (o2 : List ℕ) (r : ℕ) → Wrote a (linesFrom (valueText event card e c) (namesIn p) 0) o1 o2 r → Wrote 0 (headText h event card e c) o o2 r
-    head-done o2 r z = rw head-is (wrote-both 0 first fields o o1 a within y o2 r z)
-
-pub head-case : (h : Heads) (event card : List ℕ) (e : Happening) (c : Card) (o : List ℕ) → length (headText h event card e c) ≤ length o
-    → length (line (text "case") (nameOf (h .model))) ≤ length o
-unfolding headText
-head-case h event card e c o fits =
-    omega (arith, length-append (line (text "case") (nameOf (h .model))) (linesFrom (valueText event card e c) (take (h .fields) (namesIn (h .names))) 0))
-
-pub ruleset heading = (names-room, fields-few, head-long, head-case, head-fields, head-done)
-
--- THE SECOND HALF
-module _ (h : Heads) (sized : Sized h) (long : length (namesIn (h .names)) ≡ nameRoom) (marks : List ℕ) (held : length marks ≡ statusLimit)
-    (n : ℕ) (count : n ≡ h .stages + h .miles) (s : ℕ) (start : s ≡ h .fields + h .events) (p : List ℕ) (part : p ≡ partOf (h .names) s n) where
-  abbrev rows : List ℕ
-  rows = linesFrom (markAt marks) (namesIn p) 0
-
-  abbrev last : List ℕ
-  last = line (text "end") (decimal (h .fields + n))
-
-  tail-is : tailText h marks ≡ rows ++ last
-  unfolding tailText
-  tail-is = rw (marks-part h sized long p s n start count part, count)
-
-  pub marks-held : length (namesIn p) ≤ length marks
-  marks-held = omega (arith, marks-few h sized long p s n start count part)
-
-  -- measured
-  pub tail-long : (b k : ℕ) → b ≡ length rows → k ≡ length (decimal (h .fields + n)) → (r : ℕ) → r ≡ b + k + 5 → r ≡ length (tailText h marks)
-  tail-long b k x y r z = rw tail-is (omega (arith, length-append rows last, line-length (text "end") (decimal (h .fields + n))))
-
-  -- written
-  module _ (at : ℕ) (o : List ℕ) (fits : at + length (tailText h marks) ≤ length o) where
-    behind : at + length (rows ++ last) ≤ length o
-    behind = omega (arith, ap length tail-is)
-
-    pub tail-marks : at + length (linesFrom (markAt marks) (namesIn p) 0) ≤ length o
-    tail-marks = omega (arith, behind, length-append rows last)
-
-    module _ (o1 : List ℕ) (b : ℕ) (y : Wrote at (linesFrom (markAt marks) (namesIn p) 0) o o1 b) where
-      pub tail-end : (k : ℕ) → k ≡ h .fields + n → b + length (line (text "end") (decimal k)) ≤ length o1
-      tail-end k z = rw z (wrote-room at rows last o o1 b behind y)
-
-      pub tail-done : (k : ℕ) → k ≡ h .fields + n → (o2 : List ℕ) (r : ℕ) → Wrote b (line (text "end") (decimal k)) o1 o2 r → Wrote at (tailText h marks) o o2 r
-      tail-done k z o2 r x = rw tail-is (wrote-both at rows last o o1 b behind y o2 r (rw z at x))
-
-pub ruleset tailing = (statuses-room, marks-few, marks-held, lines-few, tail-long, tail-marks, tail-end, tail-done)
+pub fields-low : (h : Heads) → Sized h → h .fields ≤ fieldLimit
+fields-low h sized = sized .few-fields
 
 -- BOTH
 module _ (h : Heads) (sized : Sized h) (long : length (namesIn (h .names)) ≡ nameRoom) (event card : List ℕ) (e : Happening) (c : Card) (marks : List ℕ)
@@ -179,17 +182,19 @@ module _ (h : Heads) (sized : Sized h) (long : length (namesIn (h .names)) ≡ n
   status-names : statusNames (statuses (headsOf h)) ≡ marked h sized long
   status-names = statuses-are h (omega (arith, sized .few-fields, sized .few-events, sized .few-statuses))
 
-  statuses-count : length (statuses (headsOf h)) ≡ h .stages + h .miles
+  statuses-count : length (statuses (headsOf h)) ≡ length (marked h sized long)
   unfolding statusNames
-  statuses-count = sym (length-map (statuses (headsOf h)) (λ (s : Status). s .name)) ∙ ap length status-names ∙ statuses-many h sized long
+  statuses-count = sym (length-map (statuses (headsOf h)) (λ (s : Status). s .name)) ∙ ap length status-names
 
-  marks-are : lines mark (statusNames (statuses (headsOf h))) (map isYes (take (h .stages + h .miles) marks)) ≡ linesFrom (markAt marks) (marked h sized long) 0
-  marks-are =
-      let few : length (marked h sized long) ≤ length marks = omega (arith, statuses-many h sized long, sized .few-statuses) in
-      rw status-names (rw (statuses-many h sized long) at (marks-lines (marked h sized long) marks few))
+  few : length (marked h sized long) ≤ length marks
+  few = omega (arith, statuses-many h sized long, sized .few-statuses)
+
+  marks-are : lines mark (statusNames (statuses (headsOf h))) (map isYes (take (length (marked h sized long)) marks))
+      ≡ linesFrom (markAt marks) (marked h sized long) 0
+  marks-are = rw status-names (marks-lines (marked h sized long) marks few)
 
   count-is : length (map (λ f. showing (valueText event card e c f)) (from 0 (length (headsOf h .fields)))) + length
-      (map isYes (take (length (statuses (headsOf h))) marks)) ≡ h .fields + (h .stages + h .miles)
+      (map isYes (take (length (statuses (headsOf h))) marks)) ≡ h .fields + length (marked h sized long)
   count-is =
       omega (
         arith,
@@ -199,36 +204,53 @@ module _ (h : Heads) (sized : Sized h) (long : length (namesIn (h .names)) ≡ n
         length-map (take (length (statuses (headsOf h))) marks) isYes,
         length-take (length (statuses (headsOf h))) marks,
         statuses-count,
-        sized .few-statuses,
+        few,
       )
 
-  next-is : nextText (headsOf h) event card e c marks ≡ headText h event card e c ++ tailText h marks
-  unfolding nextText cardText headText tailText
-  next-is =
-      rw (fields-lined (valueText event card e c), count-is, statuses-count, marks-are, model-is h)
-      (append-assoc (line (text "case") (nameOf (h .model)) ++ linesFrom (valueText event card e c) (fieldNames h sized long) 0) _ _)
+  module _ (p : List ℕ) (p-is : p ≡ partOf (h .names) 0 (h .fields)) (a n : ℕ) (start : a ≡ h .fields + h .events) (count : n ≡ h .stages + h .miles)
+      (q : List ℕ) (q-is : q ≡ partOf (h .names) a n) where
+    abbrev head : List ℕ
+    head = headText (nameOf (h .model)) (namesIn p) event card e c
 
-  -- measured
-  pub card-long : (k m : ℕ) → k ≡ length (headText h event card e c) → m ≡ length (tailText h marks) → (n : ℕ) → n ≡ k + m
-      → n ≡ length (nextText (headsOf h) event card e c marks)
-  card-long k m p q n z = rw next-is (omega (arith, length-append (headText h event card e c) (tailText h marks)))
+    abbrev tail : List ℕ
+    tail = tailText (namesIn q) (h .fields) marks
 
-  -- written, one half behind the other
-  module _ (o : List ℕ) (fits : length (nextText (headsOf h) event card e c marks) ≤ length o) where
-    whole : 0 + length (headText h event card e c ++ tailText h marks) ≤ length o
-    whole = omega (arith, ap length next-is)
+    next-is : nextText (headsOf h) event card e c marks ≡ head ++ tail
+    unfolding nextText cardText headText tailText
+    next-is =
+        rw (
+          fields-part h sized long p p-is,
+          marks-part h sized long q a n start count q-is,
+          fields-lined (valueText event card e c),
+          count-is,
+          statuses-count,
+          marks-are,
+          model-is h,
+        )
+        (append-assoc (line (text "case") (nameOf (h .model)) ++ linesFrom (valueText event card e c) (fieldNames h sized long) 0) _ _)
 
-    pub card-head : length (headText h event card e c) ≤ length o
-    card-head = omega (arith, whole, length-append (headText h event card e c) (tailText h marks))
+    -- measured
+    pub card-long : (k m : ℕ) → k ≡ length (headText (nameOf (h .model)) (namesIn p) event card e c) → m ≡ length (tailText (namesIn q) (h .fields) marks)
+        → (n : ℕ) → n ≡ k + m → n ≡ length (nextText (headsOf h) event card e c marks)
+    card-long k m x y n z = rw next-is (omega (arith, length-append head tail))
 
-    module _ (o1 : List ℕ) (a : ℕ) (y : Wrote 0 (headText h event card e c) o o1 a) where
-      pub card-tail : a + length (tailText h marks) ≤ length o1
-      card-tail = wrote-room 0 (headText h event card e c) (tailText h marks) o o1 a whole y
+    -- written, one half behind the other
+    module _ (o : List ℕ) (fits : length (nextText (headsOf h) event card e c marks) ≤ length o) where
+      whole : 0 + length (head ++ tail) ≤ length o
+      whole = omega (arith, ap length next-is)
 
-      pub card-done : (o2 : List ℕ) (r : ℕ) → Wrote a (tailText h marks) o1 o2 r → Wrote 0 (nextText (headsOf h) event card e c marks) o o2 r
-      card-done o2 r x = rw next-is (wrote-both 0 (headText h event card e c) (tailText h marks) o o1 a whole y o2 r x)
+      pub card-head : length (headText (nameOf (h .model)) (namesIn p) event card e c) ≤ length o
+      card-head = omega (arith, whole, length-append head tail)
 
-pub ruleset carding = (card-long, card-head, card-tail, card-done)
+      module _ (o1 : List ℕ) (b : ℕ) (y : Wrote 0 (headText (nameOf (h .model)) (namesIn p) event card e c) o o1 b) where
+        pub card-tail : b + length (tailText (namesIn q) (h .fields) marks) ≤ length o1
+        card-tail = wrote-room 0 head tail o o1 b whole y
+
+        pub card-done : (o2 : List ℕ) (r : ℕ) → Wrote b (tailText (namesIn q) (h .fields) marks) o1 o2 r
+            → Wrote 0 (nextText (headsOf h) event card e c marks) o o2 r
+        card-done o2 r x = rw next-is (wrote-both 0 head tail o o1 b whole y o2 r x)
+
+pub ruleset carding = (names-room, statuses-room, fields-few, marks-few, marks-held, fields-low, card-long, card-head, card-tail, card-done)
 
 -- THE LENT SPACE
 

@@ -4,9 +4,9 @@ ghost use Prim.Native.Nat.{_≤_, _+_, _*_};
 ghost use lib.ListN.{length, take, getD};
 ghost use Rattle.meaning.specs.Limits.{cardBytes, eventBytes, fieldLimit, statusLimit};
 ghost use Rattle.limits.specs.Sizes.{nameRoom};
-ghost use Rattle.name.specs.Names.{namesIn, spellRoom};
+ghost use Rattle.name.specs.Names.{nameOf, namesIn, spellRoom};
 ghost use Rattle.sheet_tables.specs.Heads.{Sized, headsOf};
-ghost use Rattle.space.specs.Answers.{Wrote};
+ghost use Rattle.theory.specs.Writing.Lent.{Wrote};
 ghost use Rattle.card_write.specs.Texts.{part, carriedIn, valueText, nextText};
 ghost use Rattle.card_write.specs.Lines.{markAt, linesFrom, fieldRoom, headText, tailText};
 ghost use Rattle.card_write.specs.Answers.{asWritten, spaceWith};
@@ -14,6 +14,7 @@ use case_tables::Card;
 use case_tables::Happening;
 use marks::Marks;
 use name::Found;
+use name::Name;
 use sheet_tables::Heads;
 
 // How many bytes were written, or that there is not room enough.
@@ -147,51 +148,55 @@ fn marks_len(names: &[u64], marks: &[u8]) -> usize
 }
 
 // How long the first line and those of the fields are.
-fn head_len<'a>(h: Heads, event: &'a [u8], card: &'a [u8], e: Happening, c: Card) -> usize
-    requires { ⌜ Sized h × (length (namesIn (h .names)) ≡ nameRoom) × (length (now event) ≤ eventBytes) × (length (now card) ≤ cardBytes) ⌝ }
-    ensures { λ r. ⌜ (r ≡ length (headText h (now (event .entry)) (now (card .entry)) e c)) × (r ≤ spellRoom + 6 + fieldLimit * fieldRoom) ⌝ }
-{
-    let names = name::part(&h.names, 0, h.fields);
-    name::name_len(h.model) + 6 + fields_len(names, event, card, e, c)
-}
-
-// How long the lines of the statuses and the last line are.
-fn tail_len(h: Heads, marks: &[u8]) -> usize
-    requires { ⌜ Sized h × (length (namesIn (h .names)) ≡ nameRoom) × (length (now marks) ≡ statusLimit) ⌝ }
-    ensures { λ r. ⌜ (r ≡ length (tailText h (now (marks .entry)))) × (r ≤ statusLimit * (spellRoom + 5) + 7) ⌝ }
-{
-    let n = h.stages + h.miles;
-    let names = name::part(&h.names, h.fields + h.events, n);
-    marks_len(names, marks) + space::count_len(h.fields + n) + 5
-}
-
-// Puts the first line and those of the fields at the start of `out`.
-fn put_head<'a>(
-    out: &mut [u8],
-    h: Heads,
+fn head_len<'a>(
+    model: Name,
+    names: &[u64],
     event: &'a [u8],
     card: &'a [u8],
     e: Happening,
     c: Card,
 ) -> usize
-    requires { ⌜ Sized h × (length (namesIn (h .names)) ≡ nameRoom) × (length (headText h (now event) (now card) e c) ≤ length (now out)) ⌝ }
-    ensures { λ r. ⌜ Wrote 0 (headText h (now (event .entry)) (now (card .entry)) e c) (now (out .entry)) (now (out .exit)) r ⌝ }
+    requires { ⌜ (length (namesIn (now names)) ≤ fieldLimit) × (length (now event) ≤ eventBytes) × (length (now card) ≤ cardBytes) ⌝ }
+    ensures { λ r. ⌜ (r ≡ length (headText (nameOf model) (namesIn (now (names .entry))) (now (event .entry)) (now (card .entry)) e c))
+        × (r ≤ spellRoom + 6 + fieldLimit * fieldRoom) ⌝ }
 {
-    let a = space::put_case(out, h.model);
-    let names = name::part(&h.names, 0, h.fields);
+    name::name_len(model) + 6 + fields_len(names, event, card, e, c)
+}
+
+// How long the lines of the statuses and the last line are, which counts `fields` lines too.
+fn tail_len(names: &[u64], fields: usize, marks: &[u8]) -> usize
+    requires { ⌜ (length (namesIn (now names)) ≤ statusLimit) × (fields ≤ fieldLimit) × (length (namesIn (now names)) ≤ length (now marks)) ⌝ }
+    ensures { λ r. ⌜ (r ≡ length (tailText (namesIn (now (names .entry))) fields (now (marks .entry)))) × (r ≤ statusLimit * (spellRoom + 5) + 7) ⌝ }
+{
+    marks_len(names, marks) + space::count_len(fields + name::count(names)) + 5
+}
+
+// Puts the first line and those of the fields at the start of `out`.
+fn put_head<'a>(
+    out: &mut [u8],
+    model: Name,
+    names: &[u64],
+    event: &'a [u8],
+    card: &'a [u8],
+    e: Happening,
+    c: Card,
+) -> usize
+    requires { ⌜ length (headText (nameOf model) (namesIn (now names)) (now event) (now card) e c) ≤ length (now out) ⌝ }
+    ensures { λ r. ⌜ Wrote 0 (headText (nameOf model) (namesIn (now (names .entry))) (now (event .entry)) (now (card .entry)) e c) (now (out .entry))
+        (now (out .exit)) r ⌝ }
+{
+    let a = space::put_case(out, model);
     fields_at(out, a, names, event, card, e, c)
 }
 
 // Puts the lines of the statuses and the last line at a place of `out`.
-fn put_tail(out: &mut [u8], at: usize, h: Heads, marks: &[u8]) -> usize
-    requires { ⌜ Sized h × (length (namesIn (h .names)) ≡ nameRoom) × (length (now marks) ≡ statusLimit)
-        × (at + length (tailText h (now marks)) ≤ length (now out)) ⌝ }
-    ensures { λ r. ⌜ Wrote at (tailText h (now (marks .entry))) (now (out .entry)) (now (out .exit)) r ⌝ }
+fn put_tail(out: &mut [u8], at: usize, names: &[u64], fields: usize, marks: &[u8]) -> usize
+    requires { ⌜ (length (namesIn (now names)) ≤ statusLimit) × (fields ≤ fieldLimit) × (length (namesIn (now names)) ≤ length (now marks))
+        × (at + length (tailText (namesIn (now names)) fields (now marks)) ≤ length (now out)) ⌝ }
+    ensures { λ r. ⌜ Wrote at (tailText (namesIn (now (names .entry))) fields (now (marks .entry))) (now (out .entry)) (now (out .exit)) r ⌝ }
 {
-    let n = h.stages + h.miles;
-    let names = name::part(&h.names, h.fields + h.events, n);
     let b = marks_at(out, at, names, marks);
-    space::put_end(out, b, h.fields + n)
+    space::put_end(out, b, fields + name::count(names))
 }
 
 // How long the next card is.
@@ -207,7 +212,9 @@ fn card_len<'a>(
         × (length (now card) ≤ cardBytes) ⌝ }
     ensures { λ r. ⌜ r ≡ length (nextText (headsOf h) (now (event .entry)) (now (card .entry)) e c marks) ⌝ }
 {
-    head_len(h, event, card, e, c) + tail_len(h, &marks)
+    let fields = name::part(&h.names, 0, h.fields);
+    let statuses = name::part(&h.names, h.fields + h.events, h.stages + h.miles);
+    head_len(h.model, fields, event, card, e, c) + tail_len(statuses, h.fields, &marks)
 }
 
 // Puts the next card, which fits, at the start of `out`.
@@ -224,8 +231,10 @@ fn put_card<'a>(
         × (length (nextText (headsOf h) (now event) (now card) e c marks) ≤ length (now out)) ⌝ }
     ensures { λ r. ⌜ Wrote 0 (nextText (headsOf h) (now (event .entry)) (now (card .entry)) e c marks) (now (out .entry)) (now (out .exit)) r ⌝ }
 {
-    let a = put_head(out, h, event, card, e, c);
-    put_tail(out, a, h, &marks)
+    let fields = name::part(&h.names, 0, h.fields);
+    let statuses = name::part(&h.names, h.fields + h.events, h.stages + h.miles);
+    let a = put_head(out, h.model, fields, event, card, e, c);
+    put_tail(out, a, statuses, h.fields, &marks)
 }
 
 // The next card, line by line, at the start of `out`; ROOM and nothing written where it does not fit.

@@ -22,7 +22,7 @@ use Rattle.step_test.specs.declared.Moment.{Moment}
 use Rattle.step_test.specs.Codes.{asMoment}
 use Rattle.step_moment.specs.Tables.{momentOf}
 use Rattle.step_moment.proofs.Callers.{moment-is}
-use Rattle.space.specs.Answers.{Wrote}
+use Rattle.theory.specs.Writing.Lent.{Wrote}
 use Rattle.case_read.specs.declared.Case.{Case}
 use Rattle.case_read.specs.Answers.{refusedCase, takenCase, asCase}
 

@@ -8,7 +8,7 @@ use Rattle.meaning.specs.Doors as D
 use Rattle.meaning.specs.Doors.{readCase, next}
 use Rattle.meaning.specs.Clerk.{cardPrinted}
 use Rattle.reply.specs.declared.Reply.{Reply}
-use Rattle.space.specs.Answers.{Wrote}
+use Rattle.theory.specs.Writing.Lent.{Wrote}
 use Rattle.card_write.specs.Answers.{spaceWith}
 use Rattle.case_read.specs.declared.Case.{Case}
 use Rattle.case_read.specs.Answers.{asCase}

@@ -24,7 +24,7 @@ use Rattle.marks.specs.Codes.{isYes}
 use Rattle.sheet_tables.specs.declared.Heads.{Heads}
 use Rattle.sheet_tables.specs.Heads.{Sized, headsOf, namesAt, statusAt}
 use Rattle.case_tables.specs.Cards.{noHappening}
-use Rattle.space.specs.Answers.{Wrote}
+use Rattle.theory.specs.Writing.Lent.{Wrote}
 use Rattle.card_write.specs.Texts.{showing, valueText, nextText}
 use Rattle.card_write.specs.Answers.{asWritten, spaceWith}
 use Rattle.card_write.specs.declared.Written.{Written}

@@ -23,7 +23,7 @@ use Rattle.sheet_tables.specs.Rules.{asRules}
 use Rattle.sheet_read.specs.declared.SheetRead.{SheetRead}
 use Rattle.sheet_read.specs.Answers.{refusedSheet, asSheetRead, wordsRead}
 use Rattle.graph_tests.specs.declared.Tests.{Tests}
-use Rattle.space.specs.Answers.{Wrote}
+use Rattle.theory.specs.Writing.Lent.{Wrote}
 use Rattle.sets.specs.Front.{Front}
 use Rattle.case_sheet.proofs.Laws.{accept-ready, accept-words}
 use Rattle.case_sheet.proofs.Laws as Read

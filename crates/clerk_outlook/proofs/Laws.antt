@@ -18,7 +18,7 @@ use Rattle.sheet_tables.specs.Heads.{Sized}
 use Rattle.step_test.specs.declared.Moment.{Moment}
 use Rattle.step_test.specs.Codes.{asMoment}
 use Rattle.step_moment.specs.Tables.{momentOf}
-use Rattle.space.specs.Answers.{Wrote}
+use Rattle.theory.specs.Writing.Lent.{Wrote}
 use Rattle.case_read.specs.declared.Case.{Case}
 use Rattle.case_read.specs.Answers.{takenCase, asCase}
 use Rattle.case_read.proofs.Callers.{TheCase, the-case, case-moment, printed-case}

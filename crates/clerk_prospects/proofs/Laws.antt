@@ -24,8 +24,7 @@ use Rattle.name.specs.Names.{nameOf, namesIn, nameAt, tableWords, partOf}
 use Rattle.name.proofs.Tables.{name-at, table-length, part-names, part-length}
 use Rattle.sheet_tables.specs.declared.Heads.{Heads}
 use Rattle.sheet_tables.specs.Heads.{namesAt, Sized}
-use Rattle.space.specs.Answers.{Wrote}
-use Rattle.space.proofs.Laws.{Left, left-start, left-end, left-room, left-more, wrote-none, first-room, second-room, both-written}
+use Rattle.theory.specs.Writing.Lent.{Wrote, Left, left-start, left-end, left-room, left-more, wrote-none, first-room, second-room, both-written}
 use Rattle.desk_print.proofs.Laws.{listing-room}
 use Rattle.graph_order.specs.Masks.{bitAt, has}
 use Rattle.graph_order.proofs.Bits.{bit-or, bit-lt, has-none, has-full, has-and}

@@ -9,7 +9,7 @@ ghost use Rattle.meaning.specs.Refusal.{taken};
 ghost use Rattle.meaning.specs.Clerk.{patternLine, prospectsTold};
 ghost use Rattle.name.specs.Names.{nameOf, namesIn};
 ghost use Rattle.sheet_tables.specs.Heads.{Sized};
-ghost use Rattle.space.specs.Answers.{Wrote};
+ghost use Rattle.theory.specs.Writing.Lent.{Wrote};
 ghost use Rattle.clerk_prospects.specs.Lines.{commonOf, wordLine, wordLines, nameText, namesText, statusNamesOf};
 use name::Name;
 use sheet_tables::Heads;
@@ -77,10 +77,10 @@ fn put_yes(out: &mut [u8], at: usize, behind: bool, w: Name, p: u32) -> usize
         return at;
     }
     if !behind {
-        return space::put_name(out, at, w);
+        return name::spell(out, at, w);
     }
     let a = space::put_byte(out, at, b' ');
-    space::put_name(out, a, w)
+    name::spell(out, a, w)
 }
 
 // The names of a pattern, told by its bits from the lowest.

@@ -14,8 +14,7 @@ use Rattle.name.specs.declared.Name.{Name as Kept}
 use Rattle.name.specs.Names.{kept, nameOf}
 use Rattle.sheet_tables.specs.declared.Heads.{Heads}
 use Rattle.sheet_tables.specs.Heads.{Sized}
-use Rattle.space.specs.Answers.{Wrote}
-use Rattle.space.proofs.Laws.{Left, left-start, first-room, second-room, both-written}
+use Rattle.theory.specs.Writing.Lent.{Wrote, Left, left-start, first-room, second-room, both-written}
 use Rattle.desk_split.specs.Lines.{startsFrom}
 use Rattle.desk_print.proofs.Laws.{listing-room}
 use Rattle.clerk_reasons.specs.Lines.{kindOf, keptOf, overOf, wordsFrom, ruleText, toldText, keyText, reasonText, reasonsText, Held}

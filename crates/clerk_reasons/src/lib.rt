@@ -8,7 +8,7 @@ ghost use Rattle.meaning.specs.Clerk.{kindWords, parentTold};
 ghost use Rattle.meaning.specs.Limits.{statusLimit};
 ghost use Rattle.name.specs.Names.{nameOf, spellRoom};
 ghost use Rattle.sheet_tables.specs.Heads.{Sized};
-ghost use Rattle.space.specs.Answers.{Wrote};
+ghost use Rattle.theory.specs.Writing.Lent.{Wrote};
 ghost use Rattle.clerk_reasons.specs.Lines.{kindOf, keptOf, overOf, wordsFrom, ruleText, toldText, keyText, reasonText, reasonsText, Held};
 use marks::Marks;
 use name::Name;
@@ -31,7 +31,7 @@ fn put_head(out: &mut [u8], at: usize, mark: u8, w: Name) -> usize
     ensures { λ r. ⌜ Wrote at (keyText mark ++ nameOf w) (now (out .entry)) (now (out .exit)) r ⌝ }
 {
     let a = put_key(out, at, mark);
-    space::put_name(out, a, w)
+    name::spell(out, a, w)
 }
 
 // The words of a kind.
@@ -75,7 +75,7 @@ fn put_parent(out: &mut [u8], at: usize, parent: Name) -> usize
     ensures { λ r. ⌜ Wrote at (parentTold (nameOf parent)) (now (out .entry)) (now (out .exit)) r ⌝ }
 {
     let a = space::put_text(out, at, b" parent ");
-    let b = space::put_name(out, a, parent);
+    let b = name::spell(out, a, parent);
     space::put_text(out, b, b" closed\n")
 }
 

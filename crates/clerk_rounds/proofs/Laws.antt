@@ -34,8 +34,7 @@ use Rattle.graph_order.proofs.Callers.{sort-none, sort-some}
 use Rattle.graph_circle.specs.declared.Circle.{Circle}
 use Rattle.graph_circle.specs.Answers.{asCircle}
 use Rattle.graph_edges.specs.Edges.{testsInto, lineFrom}
-use Rattle.space.specs.Answers.{Wrote}
-use Rattle.space.proofs.Laws.{Left, left-start, left-end, left-room, left-more, first-room, second-room, both-written}
+use Rattle.theory.specs.Writing.Lent.{Wrote, Left, left-start, left-end, left-room, left-more, first-room, second-room, both-written}
 use Rattle.clerk_reasons.specs.Lines.{keptOf}
 use Rattle.clerk_rounds.specs.Lines.{headsText, countsText, signText, nodePart, edgeText, toldOn, placeText, roundText, cycleText, sheetText, Held}
 use Rattle.theory.specs.Graphs.Circles.{around-few, circle-few, circle-below}

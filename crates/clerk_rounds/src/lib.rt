@@ -10,7 +10,7 @@ ghost use Rattle.meaning.specs.Clerk.{countLine};
 ghost use Rattle.limits.specs.Sizes.{nodeRoom};
 ghost use Rattle.name.specs.Names.{nameOf};
 ghost use Rattle.sheet_tables.specs.Heads.{Sized};
-ghost use Rattle.space.specs.Answers.{Wrote};
+ghost use Rattle.theory.specs.Writing.Lent.{Wrote};
 ghost use Rattle.clerk_rounds.specs.Lines.{headsText, countsText, signText, nodePart, edgeText, toldOn, placeText, roundText, cycleText, sheetText, Held};
 use graph_circle::Circle;
 use graph_tests::Tests;
@@ -33,7 +33,7 @@ fn put_model(out: &mut [u8], model: Name) -> usize
     ensures { λ r. ⌜ Wrote 0 (line (text "model") (nameOf model)) (now (out .entry)) (now (out .exit)) r ⌝ }
 {
     let a = space::put_text(out, 0, b"model=");
-    let b = space::put_name(out, a, model);
+    let b = name::spell(out, a, model);
     space::put_byte(out, b, b'\n')
 }
 
@@ -76,7 +76,7 @@ fn put_node(out: &mut [u8], at: usize, heads: Heads, k: usize) -> usize
     ensures { λ r. ⌜ Wrote at (nodePart heads k) (now (out .entry)) (now (out .exit)) r ⌝ }
 {
     let a = put_sign(out, at, k);
-    let b = space::put_name(out, a, clerk_reasons::name_of(heads, k / 2));
+    let b = name::spell(out, a, clerk_reasons::name_of(heads, k / 2));
     space::put_byte(out, b, b' ')
 }
 

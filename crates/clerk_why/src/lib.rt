@@ -3,7 +3,7 @@ ghost use Prim.Native.Nat.{_≤_};
 ghost use lib.ListN.{length};
 ghost use Rattle.meaning.specs.Doors.{readCase};
 ghost use Rattle.meaning.specs.Clerk.{whyPrinted, whyOutput};
-ghost use Rattle.space.specs.Answers.{Wrote};
+ghost use Rattle.theory.specs.Writing.Lent.{Wrote};
 ghost use Rattle.sets.specs.Front.{Front};
 ghost use Rattle.desk_rooms.specs.Rooms.{whyRoom};
 

@@ -25,8 +25,7 @@ use Rattle.name.specs.Names.{namesIn, spellRoom}
 use Rattle.sheet_tables.specs.declared.Heads.{Heads}
 use Rattle.sheet_tables.specs.Heads.{Sized, statusAt, headsOf, asHeads}
 use Rattle.sheet_tables.proofs.Tables.{sized, heads-again}
-use Rattle.space.specs.Answers.{Wrote}
-use Rattle.space.proofs.Laws.{wrote-long, wrote-room, wrote-both}
+use Rattle.theory.specs.Writing.Lent.{Wrote, wrote-long, wrote-room, wrote-both}
 use Rattle.card_write.specs.Answers.{spaceWith}
 use Rattle.reply.specs.declared.Reply.{Reply}
 use Rattle.step_test.specs.declared.Moment.{Moment}

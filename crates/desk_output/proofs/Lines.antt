@@ -14,8 +14,7 @@ use Rattle.limits.specs.Sizes.{nameRoom}
 use Rattle.name.specs.declared.Name.{Name as Kept}
 use Rattle.name.specs.Names.{nameOf, namesIn, nameAt, spellRoom}
 use Rattle.name.proofs.Tables.{name-at}
-use Rattle.space.specs.Answers.{Wrote}
-use Rattle.space.proofs.Laws.{Left, left-start, left-end, left-room, left-more}
+use Rattle.theory.specs.Writing.Lent.{Wrote, Left, left-start, left-end, left-room, left-more}
 use Rattle.step_sheet.specs.declared.Accepted.{Accepted}
 use Rattle.step_test.specs.declared.Moment.{Moment}
 use Rattle.outlook_case.specs.declared.Listed.{Listed}

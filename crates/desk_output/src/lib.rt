@@ -9,7 +9,7 @@ ghost use Rattle.limits.specs.Sizes.{nameRoom};
 ghost use Rattle.name.specs.Names.{namesIn};
 ghost use Rattle.sheet_tables.specs.Heads.{Sized};
 ghost use Rattle.step_moment.specs.Tables.{momentOf};
-ghost use Rattle.space.specs.Answers.{Wrote};
+ghost use Rattle.theory.specs.Writing.Lent.{Wrote};
 ghost use Rattle.sets.specs.Front.{Front};
 ghost use Rattle.outlook_case.specs.Patterns.{Ready, answerOf};
 ghost use Rattle.desk_rooms.specs.Rooms.{listRoom, deskRoom};

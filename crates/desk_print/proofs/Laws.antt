@@ -12,8 +12,7 @@ use Rattle.meaning.specs.Name.{Name}
 use Rattle.meaning.specs.Number.{decimal}
 use Rattle.meaning.specs.Write.{line}
 use Rattle.meaning.specs.Desk.{refusalText}
-use Rattle.space.specs.Answers.{Wrote}
-use Rattle.space.proofs.Laws.{Left, left-start, left-end, left-room, left-more, wrote-none, first-room, second-room, both-written}
+use Rattle.theory.specs.Writing.Lent.{Wrote, Left, left-start, left-end, left-room, left-more, wrote-none, first-room, second-room, both-written}
 use Rattle.desk_print.specs.Lines.{startText, patternText, manyText}
 
 -- LINES

@@ -3,7 +3,7 @@ ghost use Prim.Native.Nat.{_≤_, _+_};
 ghost use lib.ListN.{length};
 ghost use Rattle.meaning.specs.Desk.{refusalText};
 ghost use Rattle.name.specs.Names.{nameOf};
-ghost use Rattle.space.specs.Answers.{Wrote};
+ghost use Rattle.theory.specs.Writing.Lent.{Wrote};
 ghost use Rattle.desk_print.specs.Lines.{startText, patternText, manyText};
 use name::Name;
 
@@ -27,7 +27,7 @@ pub fn put_start(out: &mut [u8], at: usize, w: Name, tasks: u32) -> usize
         return at;
     }
     let a = space::put_text(out, at, b"start=");
-    let b = space::put_name(out, a, w);
+    let b = name::spell(out, a, w);
     space::put_byte(out, b, b'\n')
 }
 

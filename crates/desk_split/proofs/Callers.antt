@@ -11,7 +11,7 @@ use Rattle.meaning.specs.Refusal.{LONG}
 use Rattle.meaning.specs.Limits.{deskBytes}
 use Rattle.meaning.specs.Desk.{lineLength, paperLength, firstPaper, afterPaper, refusalText, onPapers}
 use Rattle.meaning.specs.Clerk.{behindLines}
-use Rattle.space.specs.Answers.{Wrote}
+use Rattle.theory.specs.Writing.Lent.{Wrote}
 use Rattle.sets.specs.Front.{Front}
 use Rattle.desk_split.specs.Lines.{startsFrom, lineStarts}
 use Rattle.desk_split.proofs.Laws.{line-within, paper-within}

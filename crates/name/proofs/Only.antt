@@ -62,4 +62,8 @@ pub name-len-only : Determines NameLen.Learnt
 name-len-only κs a r q s t h g = only (h .0) (g .0)
 
 pub spell-only : Determines Spell.Learnt
-spell-only κs a r q s t = only
+spell-only κs a r q s t h g = only (h .next) (g .next)
+
+-- the lent space is the first parameter
+pub spell-space-only : Settles Spell.Learnt (λ κs r s. now (s .0))
+spell-space-only κs a r q s t h g = only (h .space) (g .space)

@@ -1,18 +1,16 @@
 -- Kept names spelt, symbol by symbol, in the form in which the functions' answers need it.
 use Prim.Native.Nat.{ℕ, zero, suc, _+_, _-_, _/_, _%_, _<_, _≤_}
-use mathlib.Core.Path.{_≡_, refl, sym, _∙_, ap}
+use mathlib.Core.Path.{_≡_, refl, ap}
 use mathlib.Core.Bool.{true, false}
-use mathlib.Core.List.{List, [], _∷_, _++_, append-nil}
+use mathlib.Core.List.{List, [], _∷_, _++_}
 use native.Mathlib.Omega.{arith}
 use borrow.Author.Tests.{eq-eqb, ne-eqb, le-leb, lt-leb}
 use lib.Dec.{eqb}
-use lib.ListN.{length, set, replicate, length-append}
-use lib.Seq.{append-snoc}
-use Rattle.theory.specs.Lists.Padded.{padded, padded-set, padded-length}
+use lib.ListN.{length, set}
+use Rattle.theory.specs.Writing.Lent.{Wrote, Left, left-start, left-end, left-room, left-more, left-long, byte-put}
 use Rattle.name.specs.declared.Name.{Name as Kept}
 use Rattle.name.specs.Packed.{base, byteOf, namedIn, named}
 use Rattle.name.specs.Names.{nameOf, spellRoom}
-use Rattle.name.specs.Answers.{spellingOf}
 
 -- SYMBOLS
 
@@ -85,44 +83,38 @@ spelt-short w = few spellRoom (w .word)
               (v / base)
         ]) ≤ suc k) [ true ↦ omega arith | false ↦ omega (arith, few k (v / base)) ]
 
--- ITS BYTES: the first n stand in the array, and those of v are left
-pub record Begun (w : ℕ) (bytes : List ℕ) (n v : ℕ) : Type 0 where
-  pub so : List ℕ
-  pub many : n ≡ length so
-  pub within : n ≤ spellRoom
-  pub stand : bytes ≡ padded spellRoom 0 so
-  pub whole : named w ≡ so ++ namedIn (spellRoom - n) v
+-- ITS BYTES: n symbols are written, and those of v are left
+pub spell-start : (w : Kept) (at : ℕ) (o : List ℕ) → at + length (nameOf w) ≤ length o
+    → Left at (named (w .word)) o at (namedIn (spellRoom - 0) (w .word)) o
+unfolding nameOf named
+spell-start w at o h = left-start at (nameOf w) o h
 
-pub spell-start : (w : ℕ) → Begun w (replicate spellRoom 0) 0 w
-unfolding named padded
-spell-start w = record { so = []; many = refl; within = omega arith; stand = refl; whole = refl }
-
-module _ (w : ℕ) (bytes : List ℕ) (n v : ℕ) (b : Begun w bytes n v) where
-  pub spell-places : length bytes ≡ spellRoom
-  spell-places = rw (b .stand) (padded-length spellRoom 0 (b .so) (omega (arith, b .many, b .within)))
-
-  pub spell-more : n < spellRoom → (v ≡ 0 → ⊥) → (d u m : ℕ) → d ≡ byteOf (v % base) → u ≡ v / base → m ≡ n + 1 → Begun w (set bytes n d) m u
-  spell-more h g d u m x y z =
-      let k : spellRoom - n - 1 ≡ spellRoom - m = omega arith in
-      record {
-        so = b .so ++ (d ∷ []);
-        many = omega (arith, b .many, length-append (b .so) (d ∷ []));
-        within = omega arith;
-        stand = rw (b .stand, b .many) (padded-set spellRoom 0 (b .so) d (omega (arith, b .many)));
-        whole = b .whole ∙ rw (named-step (spellRoom - n) v (omega arith) g, ← x, ← y, k) (sym (append-snoc (b .so) d (namedIn (spellRoom - m) u)));
-      }
-
-module _ (w : Kept) (bytes : List ℕ) (n v : ℕ) (b : Begun (w .word) bytes n v) where
-  done : namedIn (spellRoom - n) v ≡ [] → record { bytes = bytes; length = n } ≡ spellingOf (nameOf w)
+module _ (at₀ : ℕ) (w : Kept) (o₀ : List ℕ) (at n v : ℕ) (o : List ℕ) (l : Left at₀ (named (w .word)) o₀ at (namedIn (spellRoom - n) v) o) where
+  pub spell-end : v ≡ 0 → Wrote at₀ (nameOf w) o₀ o at
   unfolding nameOf
-  done e =
-      let z : named (w .word) ≡ b .so = rw (b .whole, e, append-nil (b .so)) in
-      rw (z, b .stand, b .many)
+  spell-end e = left-end at₀ (named (w .word)) o₀ at (namedIn (spellRoom - n) v) o l (named-none (spellRoom - n) v e)
 
-  pub spell-end : v ≡ 0 → record { bytes = bytes; length = n } ≡ spellingOf (nameOf w)
-  spell-end e = done (named-none (spellRoom - n) v e)
+  pub spell-full : spellRoom ≤ n → Wrote at₀ (nameOf w) o₀ o at
+  unfolding nameOf
+  spell-full h = left-end at₀ (named (w .word)) o₀ at (namedIn (spellRoom - n) v) o l (named-over (spellRoom - n) v (omega arith))
 
-  pub spell-full : spellRoom ≤ n → record { bytes = bytes; length = n } ≡ spellingOf (nameOf w)
-  spell-full h = done (named-over (spellRoom - n) v (omega arith))
+module _ (at₀ : ℕ) (w o₀ : List ℕ) (at n v : ℕ) (o : List ℕ) (l : Left at₀ w o₀ at (namedIn (spellRoom - n) v) o) (h : n < spellRoom) (g : v ≡ 0 → ⊥) where
+  abbrev byte : List ℕ
+  byte = byteOf (v % base) ∷ []
 
-pub ruleset spelling = (spell-start, spell-places, spell-end, spell-full, spell-more)
+  abbrev more : List ℕ
+  more = namedIn (spellRoom - n - 1) (v / base)
+
+  first : namedIn (spellRoom - n) v ≡ byte ++ more
+  first = named-step (spellRoom - n) v (omega arith) g
+
+  pub spell-room : at < length o
+  spell-room = omega (arith, left-room at₀ w o₀ at (namedIn (spellRoom - n) v) o l byte more first)
+
+  pub spell-more : (d b u m : ℕ) → d ≡ byteOf (v % base) → b ≡ at + 1 → u ≡ v / base → m ≡ n + 1 → Left at₀ w o₀ b (namedIn (spellRoom - m) u) (set o at d)
+  spell-more d b u m x c y z =
+      let k : spellRoom - n - 1 ≡ spellRoom - m = omega arith in
+      let put = byte-put at (byteOf (v % base)) o (omega (arith, spell-room)) b c in
+      rw (x, y, ← k) (left-more at₀ w o₀ at (namedIn (spellRoom - n) v) o l byte more first (set o at (byteOf (v % base))) b put)
+
+pub ruleset spelling = (spell-start, spell-end, spell-full, spell-room, spell-more, left-long)

@@ -4,12 +4,10 @@ use mathlib.Core.Bool.{Bool, true, false}
 use mathlib.Core.List.{List, [], _∷_}
 use mathlib.Core.Option.{Option, none, some}
 use lib.Dec.{eqb}
-use lib.ListN.{length}
 use Rattle.meaning.specs.Reading.{Got}
 use Rattle.meaning.specs.Name.{Name}
-use Rattle.theory.specs.Lists.Padded.{padded}
 use Rattle.theory.specs.Reading.Answer.{asRead, asShown}
-use Rattle.name.specs.Names.{kept, spellRoom}
+use Rattle.name.specs.Names.{kept}
 use Rattle.name.specs.declared.Name.{Name as Kept}
 use Rattle.name.specs.declared.NamePiece.{NamePiece}
 use Rattle.name.specs.declared.NamePiece.the-variants as N
@@ -17,7 +15,6 @@ use Rattle.name.specs.declared.Known.{Known}
 use Rattle.name.specs.declared.Known.the-variants as K
 use Rattle.name.specs.declared.Found.{Found}
 use Rattle.name.specs.declared.Found.the-variants as F
-use Rattle.name.specs.declared.Spelling.{Spelling}
 
 -- a name as it is kept, and its length
 abbrev pub asName : Got Name → NamePiece
@@ -58,7 +55,3 @@ sameKept w k = eqb (k .word) (w .word)
 -- the first place of a kept name
 abbrev pub foundIn : Kept → List Kept → Found
 foundIn w ks = foundBy (sameKept w) ks
-
--- the bytes of a name, and how many they are
-abbrev pub spellingOf : Name → Spelling
-spellingOf w = record { bytes = padded spellRoom 0 w; length = length w }

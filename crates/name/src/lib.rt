@@ -7,11 +7,12 @@ ghost use lib.ListN.{length, take, drop};
 ghost use Rattle.meaning.specs.Text.{run, isIn};
 ghost use Rattle.meaning.specs.Limits.{nameBytes};
 ghost use Rattle.meaning.specs.Name.{letter, nameByte, reserved, name, newName, dueName, known};
+ghost use Rattle.theory.specs.Writing.Lent.{Wrote};
 ghost use Rattle.limits.specs.Sizes.{nameRoom};
 ghost use Rattle.text.specs.Answers.{asBytes};
 ghost use Rattle.name.specs.Packed.{base, symbol, byteOf, packed};
 ghost use Rattle.name.specs.Names.{kept, nameOf, spellRoom, keptIn, namesIn, nameAt, tableOf, putIn, partOf};
-ghost use Rattle.name.specs.Answers.{asName, asKnown, nameFault, knownFault, foundIn, spellingOf};
+ghost use Rattle.name.specs.Answers.{asName, asKnown, nameFault, knownFault, foundIn};
 use text::Bytes;
 
 // A name as it is kept: its symbols packed into one number.
@@ -38,12 +39,6 @@ pub enum Known {
 pub enum Found {
     At(usize),
     Nothing,
-}
-
-// The bytes of a kept name, and how many they are.
-pub struct Spelling {
-    pub bytes: [u8; PLACES],
-    pub length: usize,
 }
 
 // The most bytes that a kept name has, whatever its number: one more than a name may have.
@@ -326,20 +321,22 @@ pub fn name_len(w: Name) -> usize
     n
 }
 
-// The bytes of a kept name.
-pub fn spell(w: Name) -> Spelling
-    ensures { λ r. ⌜ r ≡ spellingOf (nameOf w) ⌝ }
+// Puts the bytes of a kept name at a place of `out`, and tells the place behind them.
+pub fn spell(out: &mut [u8], at: usize, w: Name) -> usize
+    requires { ⌜ at + length (nameOf w) ≤ length (now out) ⌝ }
+    ensures { λ r. ⌜ Wrote at (nameOf w) (now (out .entry)) (now (out .exit)) r ⌝ }
 {
-    let mut bytes = [0; PLACES];
+    let mut to = at;
     let mut n = 0;
     let mut v = w.word;
     while n < PLACES {
         if v == 0 {
-            return Spelling { bytes, length: n };
+            return to;
         }
-        bytes[n] = symbol_byte(v % BASE);
+        out[to] = symbol_byte(v % BASE);
+        to += 1;
         v = v / BASE;
         n += 1;
     }
-    Spelling { bytes, length: n }
+    to
 }

@@ -5,7 +5,6 @@ use Rattle.space.proofs.count_len.Reads as CountLen
 use Rattle.space.proofs.mark_len.Reads as MarkLen
 use Rattle.space.proofs.put_byte.Reads as PutByte
 use Rattle.space.proofs.put_text.Reads as PutText
-use Rattle.space.proofs.put_name.Reads as PutName
 use Rattle.space.proofs.put_number.Reads as PutNumber
 use Rattle.space.proofs.line_at.Reads as LineAt
 use Rattle.space.proofs.mark_at.Reads as MarkAt
@@ -30,12 +29,6 @@ put-text-only κs a r q s t h g = only (h .next) (g .next)
 
 pub put-text-space-only : Settles PutText.Learnt (λ κs r s. now (s .0))
 put-text-space-only κs a r q s t h g = only (h .space) (g .space)
-
-pub put-name-only : Determines PutName.Learnt
-put-name-only κs a r q s t h g = only (h .next) (g .next)
-
-pub put-name-space-only : Settles PutName.Learnt (λ κs r s. now (s .0))
-put-name-space-only κs a r q s t h g = only (h .space) (g .space)
 
 pub put-number-only : Determines PutNumber.Learnt
 put-number-only κs a r q s t h g = only (h .next) (g .next)

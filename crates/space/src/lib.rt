@@ -1,4 +1,4 @@
-// Texts, names, numbers and lines put into lent space, and how long they are.
+// Texts, numbers and lines put into lent space, and how long they are.
 ghost use mathlib.Core.Path.{_≡_};
 ghost use mathlib.Core.List.{[], _∷_, _++_};
 ghost use Prim.Native.Nat.{_≤_, _<_, _+_};
@@ -6,9 +6,9 @@ ghost use lib.ListN.{length};
 ghost use Rattle.meaning.specs.Text.{text};
 ghost use Rattle.meaning.specs.Number.{decimal, writtenIn};
 ghost use Rattle.meaning.specs.Write.{line, mark};
+ghost use Rattle.theory.specs.Writing.Lent.{Wrote};
 ghost use Rattle.name.specs.Names.{nameOf, spellRoom};
 ghost use Rattle.marks.specs.Codes.{isYes};
-ghost use Rattle.space.specs.Answers.{Wrote};
 use name::Name;
 
 // Puts a byte at a place of `out`, and tells the place behind it.
@@ -32,17 +32,6 @@ pub fn put_text(out: &mut [u8], at: usize, w: &[u8]) -> usize
         i += 1;
     }
     to
-}
-
-// Puts a kept name at a place of `out`, and tells the place behind it.
-pub fn put_name(out: &mut [u8], at: usize, w: Name) -> usize
-    requires { ⌜ at + length (nameOf w) ≤ length (now out) ⌝ }
-    ensures { λ r. ⌜ Wrote at (nameOf w) (now (out .entry)) (now (out .exit)) r ⌝ }
-{
-    let p = name::spell(w);
-    let n = p.length;
-    let bytes = p.bytes;
-    put_text(out, at, &bytes[..n])
 }
 
 // Puts a number of at most `left` digits: those before the last one first.
@@ -85,7 +74,7 @@ fn put_line(out: &mut [u8], w: Name, v: &[u8]) -> usize
     requires { ⌜ length (line (nameOf w) (now v)) ≤ length (now out) ⌝ }
     ensures { λ r. ⌜ Wrote 0 (line (nameOf w) (now (v .entry))) (now (out .entry)) (now (out .exit)) r ⌝ }
 {
-    let a = put_name(out, 0, w);
+    let a = name::spell(out, 0, w);
     let b = put_byte(out, a, b'=');
     let c = put_text(out, b, v);
     put_byte(out, c, b'\n')
@@ -128,7 +117,7 @@ pub fn put_case(out: &mut [u8], model: Name) -> usize
     ensures { λ r. ⌜ Wrote 0 (line (text "case") (nameOf model)) (now (out .entry)) (now (out .exit)) r ⌝ }
 {
     let a = put_text(out, 0, b"case=");
-    let b = put_name(out, a, model);
+    let b = name::spell(out, a, model);
     put_byte(out, b, b'\n')
 }
 

@@ -33,7 +33,7 @@ use Rattle.step_test.specs.declared.Moment.{Moment}
 use Rattle.step_run.specs.Run.{runOver}
 use Rattle.step_run.proofs.Callers.{order-leads}
 use Rattle.step_moment.proofs.Callers.{moment-is, tasks-are}
-use Rattle.space.specs.Answers.{Wrote}
+use Rattle.theory.specs.Writing.Lent.{Wrote}
 use Rattle.card_write.specs.Texts.{nextText}
 use Rattle.card_write.specs.Answers.{spaceWith}
 use Rattle.card_write.proofs.Callers.{next-after}

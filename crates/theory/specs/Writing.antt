@@ -3,3 +3,4 @@ pub mod ReadBack
 pub mod CardText
 pub mod EventText
 pub mod Rows
+pub mod Lent

@@ -5,6 +5,18 @@ use Rattle.card_write.proofs.Whole.{carding}
 use Rattle.card_write.proofs.card_len.Statement.{statement}
 use Rattle.card_write.proofs.card_len.Tie as tie
 
+part-requires : tie.Need-part-requires
+part-requires c κs = search (needs, carding)
+
+add-part : tie.Need-add-part
+add-part c = search (needs, carding)
+
+add-part-2 : tie.Need-add-part-2
+add-part-2 c = search (needs, carding)
+
+part-requires-2 : tie.Need-part-requires-2
+part-requires-2 c κs = search (needs, carding)
+
 head-len-requires : tie.Need-head-len-requires
 head-len-requires c κs = search (needs, carding)
 
@@ -23,4 +35,13 @@ returns c = search (needs, carding)
 pub card-len-spec : {M : Type 1} → statement M
 card-len-spec =
     tie.close
-    (tie.spec head-len-requires slice-aggregate-tail-len tail-len-requires add-result returns)
+    (tie.spec
+    part-requires
+    add-part
+    add-part-2
+    part-requires-2
+    head-len-requires
+    slice-aggregate-tail-len
+    tail-len-requires
+    add-result
+    returns)

@@ -5,7 +5,7 @@ use borrow.Author.Needs.{needs}
 use Prim.Native.Nat.{_-_}
 use lib.ListN.{drop}
 use Rattle.name.specs.Names.{namesIn}
-use Rattle.space.proofs.Laws.{Left}
+use Rattle.theory.specs.Writing.Lent.{Left}
 use Rattle.card_write.specs.Texts.{valueText}
 use Rattle.card_write.specs.Lines.{linesFrom}
 use Rattle.card_write.proofs.Rows.{fields-writing}

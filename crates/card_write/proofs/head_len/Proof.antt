@@ -1,12 +1,9 @@
--- `card_write::head_len` meets its contract. The names of the fields are the first of the table.
+-- `card_write::head_len` meets its contract. The first line, and those of the fields behind it.
 -- Assumes nothing.
 use borrow.Author.Needs.{needs}
 use Rattle.card_write.proofs.Whole.{heading}
 use Rattle.card_write.proofs.head_len.Statement.{statement}
 use Rattle.card_write.proofs.head_len.Tie as tie
-
-part-requires : tie.Need-part-requires
-part-requires c κs = search (needs, heading)
 
 name-len-requires : tie.Need-name-len-requires
 name-len-requires c κs = search (needs, heading)
@@ -26,4 +23,9 @@ returns c = search (needs, heading)
 pub head-len-spec : {M : Type 1} → statement M
 head-len-spec =
     tie.close
-    (tie.spec part-requires name-len-requires add-result fields-len-requires add-result-2 returns)
+    (tie.spec
+    name-len-requires
+    add-result
+    fields-len-requires
+    add-result-2
+    returns)

@@ -5,7 +5,7 @@ use borrow.Author.Needs.{needs}
 use Prim.Native.Nat.{_-_}
 use lib.ListN.{drop}
 use Rattle.name.specs.Names.{namesIn}
-use Rattle.space.proofs.Laws.{Left}
+use Rattle.theory.specs.Writing.Lent.{Left}
 use Rattle.card_write.specs.Lines.{markAt, linesFrom}
 use Rattle.card_write.proofs.Rows.{marks-writing}
 use Rattle.card_write.proofs.marks_at.Statement.{statement}

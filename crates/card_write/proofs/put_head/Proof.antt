@@ -8,9 +8,6 @@ use Rattle.card_write.proofs.put_head.Tie as tie
 put-case-requires : tie.Need-put-case-requires
 put-case-requires c κs = search (needs, heading)
 
-part-requires : tie.Need-part-requires
-part-requires c κs = search (needs, heading)
-
 fields-at-requires : tie.Need-fields-at-requires
 fields-at-requires c κs = search (needs, heading)
 
@@ -21,5 +18,4 @@ returns : tie.Need-returns
 returns c = search (needs, heading)
 
 pub put-head-spec : {M : Type 1} → statement M
-put-head-spec =
-    tie.close (tie.spec put-case-requires part-requires fields-at-requires same-length returns)
+put-head-spec = tie.close (tie.spec put-case-requires fields-at-requires same-length returns)

@@ -5,17 +5,11 @@ use Rattle.card_write.proofs.Whole.{tailing}
 use Rattle.card_write.proofs.put_tail.Statement.{statement}
 use Rattle.card_write.proofs.put_tail.Tie as tie
 
-add-n : tie.Need-add-n
-add-n c = search (needs, tailing)
-
-add-part : tie.Need-add-part
-add-part c = search (needs, tailing)
-
-part-requires : tie.Need-part-requires
-part-requires c κs = search (needs, tailing)
-
 marks-at-requires : tie.Need-marks-at-requires
 marks-at-requires c κs = search (needs, tailing)
+
+count-requires : tie.Need-count-requires
+count-requires c κs = search (needs, tailing)
 
 add-put-end : tie.Need-add-put-end
 add-put-end c = search (needs, tailing)
@@ -33,10 +27,8 @@ pub put-tail-spec : {M : Type 1} → statement M
 put-tail-spec =
     tie.close
     (tie.spec
-    add-n
-    add-part
-    part-requires
     marks-at-requires
+    count-requires
     add-put-end
     put-end-requires
     same-length

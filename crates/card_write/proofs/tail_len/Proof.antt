@@ -1,21 +1,15 @@
--- `card_write::tail_len` meets its contract. The names of the statuses stand in the table behind those of fields and events.
+-- `card_write::tail_len` meets its contract. The lines of the statuses, and the last line behind them.
 -- Assumes nothing.
 use borrow.Author.Needs.{needs}
 use Rattle.card_write.proofs.Whole.{tailing}
 use Rattle.card_write.proofs.tail_len.Statement.{statement}
 use Rattle.card_write.proofs.tail_len.Tie as tie
 
-add-n : tie.Need-add-n
-add-n c = search (needs, tailing)
-
-add-part : tie.Need-add-part
-add-part c = search (needs, tailing)
-
-part-requires : tie.Need-part-requires
-part-requires c κs = search (needs, tailing)
-
 marks-len-requires : tie.Need-marks-len-requires
 marks-len-requires c κs = search (needs, tailing)
+
+count-requires : tie.Need-count-requires
+count-requires c κs = search (needs, tailing)
 
 add-count-len : tie.Need-add-count-len
 add-count-len c = search (needs, tailing)
@@ -36,10 +30,8 @@ pub tail-len-spec : {M : Type 1} → statement M
 tail-len-spec =
     tie.close
     (tie.spec
-    add-n
-    add-part
-    part-requires
     marks-len-requires
+    count-requires
     add-count-len
     count-len-requires
     add-result

@@ -5,7 +5,7 @@ use Prim.Native.Nat.{_-_}
 use lib.ListN.{drop}
 use mathlib.Core.Bool.{false}
 use Rattle.name.specs.Names.{namesIn}
-use Rattle.space.proofs.Laws.{Left}
+use Rattle.theory.specs.Writing.Lent.{Left}
 use Rattle.clerk_prospects.specs.Lines.{namesText}
 use Rattle.clerk_prospects.proofs.Laws.{names}
 use Rattle.clerk_prospects.proofs.put_names.Statement.{statement}

@@ -6,7 +6,7 @@ use lib.ListN.{length, drop}
 use Rattle.meaning.specs.Text.{joined}
 use Rattle.meaning.specs.Clerk.{patternLine}
 use Rattle.name.specs.Names.{namesIn}
-use Rattle.space.proofs.Laws.{Left}
+use Rattle.theory.specs.Writing.Lent.{Left}
 use Rattle.desk_print.proofs.Laws.{listing}
 use Rattle.clerk_prospects.proofs.Laws.{patterns-room}
 use Rattle.clerk_prospects.proofs.put_patterns.Statement.{statement}

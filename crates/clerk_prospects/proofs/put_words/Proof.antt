@@ -4,7 +4,7 @@ use borrow.Author.Needs.{needs}
 use Prim.Native.Nat.{_-_}
 use lib.ListN.{drop}
 use Rattle.name.specs.Names.{namesIn}
-use Rattle.space.proofs.Laws.{Left}
+use Rattle.theory.specs.Writing.Lent.{Left}
 use Rattle.clerk_prospects.specs.Lines.{wordLines}
 use Rattle.clerk_prospects.proofs.Laws.{words}
 use Rattle.clerk_prospects.proofs.put_words.Statement.{statement}

@@ -8,8 +8,8 @@ use Rattle.clerk_prospects.proofs.put_yes.Tie as tie
 returns : tie.Need-returns
 returns c = search (needs, yes)
 
-put-name-requires : tie.Need-put-name-requires
-put-name-requires c κs = search (needs, yes)
+spell-requires : tie.Need-spell-requires
+spell-requires c κs = search (needs, yes)
 
 same-length : tie.Need-same-length
 same-length c = search (needs, yes)
@@ -20,8 +20,8 @@ returns-2 c = search (needs, yes)
 put-byte-requires : tie.Need-put-byte-requires
 put-byte-requires c κs = search (needs, yes)
 
-put-name-requires-2 : tie.Need-put-name-requires-2
-put-name-requires-2 c κs = search (needs, yes)
+spell-requires-2 : tie.Need-spell-requires-2
+spell-requires-2 c κs = search (needs, yes)
 
 same-length-2 : tie.Need-same-length-2
 same-length-2 c = search (needs, yes)
@@ -34,10 +34,10 @@ put-yes-spec =
     tie.close
     (tie.spec
     returns
-    put-name-requires
+    spell-requires
     same-length
     returns-2
     put-byte-requires
-    put-name-requires-2
+    spell-requires-2
     same-length-2
     returns-3)

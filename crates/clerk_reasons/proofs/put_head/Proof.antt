@@ -8,8 +8,8 @@ use Rattle.clerk_reasons.proofs.put_head.Tie as tie
 put-key-requires : tie.Need-put-key-requires
 put-key-requires c κs = search (needs, heading)
 
-put-name-requires : tie.Need-put-name-requires
-put-name-requires c κs = search (needs, heading)
+spell-requires : tie.Need-spell-requires
+spell-requires c κs = search (needs, heading)
 
 same-length : tie.Need-same-length
 same-length c = search needs
@@ -18,4 +18,4 @@ returns : tie.Need-returns
 returns c = search (needs, heading)
 
 pub put-head-spec : {M : Type 1} → statement M
-put-head-spec = tie.close (tie.spec put-key-requires put-name-requires same-length returns)
+put-head-spec = tie.close (tie.spec put-key-requires spell-requires same-length returns)

@@ -11,8 +11,8 @@ slice-aggregate-put-text c = search needs
 put-text-requires : tie.Need-put-text-requires
 put-text-requires c κs = search (needs, closing)
 
-put-name-requires : tie.Need-put-name-requires
-put-name-requires c κs = search (needs, closing)
+spell-requires : tie.Need-spell-requires
+spell-requires c κs = search (needs, closing)
 
 slice-aggregate-put-text-2 : tie.Need-slice-aggregate-put-text-2
 slice-aggregate-put-text-2 c = search needs
@@ -32,7 +32,7 @@ put-parent-spec =
     (tie.spec
     slice-aggregate-put-text
     put-text-requires
-    put-name-requires
+    spell-requires
     slice-aggregate-put-text-2
     put-text-requires-2
     same-length

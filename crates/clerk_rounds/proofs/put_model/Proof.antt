@@ -11,8 +11,8 @@ slice-aggregate-put-text c = search needs
 put-text-requires : tie.Need-put-text-requires
 put-text-requires c κs = search (needs, modelling)
 
-put-name-requires : tie.Need-put-name-requires
-put-name-requires c κs = search (needs, modelling)
+spell-requires : tie.Need-spell-requires
+spell-requires c κs = search (needs, modelling)
 
 put-byte-requires : tie.Need-put-byte-requires
 put-byte-requires c κs = search (needs, modelling)
@@ -29,7 +29,7 @@ put-model-spec =
     (tie.spec
     slice-aggregate-put-text
     put-text-requires
-    put-name-requires
+    spell-requires
     put-byte-requires
     same-length
     returns)

@@ -11,8 +11,8 @@ put-sign-requires c κs = search (needs, noding)
 name-of-requires : tie.Need-name-of-requires
 name-of-requires c κs = search (needs, noding)
 
-put-name-requires : tie.Need-put-name-requires
-put-name-requires c κs = search (needs, noding)
+spell-requires : tie.Need-spell-requires
+spell-requires c κs = search (needs, noding)
 
 put-byte-requires : tie.Need-put-byte-requires
 put-byte-requires c κs = search (needs, noding)
@@ -29,7 +29,7 @@ put-node-spec =
     (tie.spec
     put-sign-requires
     name-of-requires
-    put-name-requires
+    spell-requires
     put-byte-requires
     same-length
     returns)

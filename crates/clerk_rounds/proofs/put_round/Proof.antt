@@ -3,7 +3,7 @@
 use borrow.Author.Needs.{needs}
 use Prim.Native.Nat.{_-_}
 use lib.ListN.{take}
-use Rattle.space.proofs.Laws.{Left}
+use Rattle.theory.specs.Writing.Lent.{Left}
 use Rattle.clerk_rounds.specs.Lines.{roundText}
 use Rattle.clerk_rounds.proofs.Laws.{roundFrom, rounding}
 use Rattle.clerk_rounds.proofs.put_round.Statement.{statement}

@@ -4,7 +4,7 @@ use borrow.Author.Needs.{needs}
 use Prim.Native.Nat.{_-_}
 use lib.ListN.{length, drop}
 use Rattle.meaning.specs.Text.{joined}
-use Rattle.space.proofs.Laws.{Left}
+use Rattle.theory.specs.Writing.Lent.{Left}
 use Rattle.desk_print.specs.Lines.{patternText}
 use Rattle.desk_print.proofs.Laws.{listing}
 use Rattle.desk_output.proofs.Lines.{patterns-room}

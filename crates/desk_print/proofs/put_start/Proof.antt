@@ -14,8 +14,8 @@ slice-aggregate-put-text c = search (needs, starting)
 put-text-requires : tie.Need-put-text-requires
 put-text-requires c κs = search (needs, starting)
 
-put-name-requires : tie.Need-put-name-requires
-put-name-requires c κs = search (needs, starting)
+spell-requires : tie.Need-spell-requires
+spell-requires c κs = search (needs, starting)
 
 put-byte-requires : tie.Need-put-byte-requires
 put-byte-requires c κs = search (needs, starting)
@@ -33,7 +33,7 @@ put-start-spec =
     returns
     slice-aggregate-put-text
     put-text-requires
-    put-name-requires
+    spell-requires
     put-byte-requires
     same-length
     returns-2)

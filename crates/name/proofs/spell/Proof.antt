@@ -1,20 +1,25 @@
--- `name::spell` answers the bytes of a kept name. The loop: those passed stand in the array, and those of what is left are due.
+-- `name::spell` puts the bytes of a kept name. The loop: those of what is left are due at the place reached.
 -- Assumes nothing.
 use borrow.Author.Needs.{needs}
 use Prim.Native.Nat.{_-_}
+use Rattle.theory.specs.Writing.Lent.{Left}
+use Rattle.name.specs.Packed.{namedIn, named}
 use Rattle.name.specs.Names.{spellRoom}
-use Rattle.name.proofs.Spelt.{Begun, spelling}
+use Rattle.name.proofs.Spelt.{spelling}
 use Rattle.name.proofs.spell.Statement.{statement}
 use Rattle.name.proofs.spell.Tie as tie
 
 abbrev Inv-loop : tie.InvT-loop
-Inv-loop bytes₀ n₀ v₀ bytes n v = Begun v₀ bytes n v
+Inv-loop out₀ at to₀ n₀ v₀ out to n v = Left at (named v₀) out₀ to (namedIn (spellRoom - n) v) out
 
 abbrev μ-loop : tie.MeasureT-loop
-μ-loop bytes₀ n₀ v₀ bytes n v = spellRoom - n
+μ-loop out₀ at to₀ n₀ v₀ out to n v = spellRoom - n
 
 loop-holds : tie.Need-loop-holds Inv-loop μ-loop
 loop-holds c = search (needs, spelling)
+
+same-length : tie.Need-same-length Inv-loop μ-loop
+same-length c = search (needs, spelling)
 
 returns : tie.Need-returns Inv-loop μ-loop
 returns c = search (needs, spelling)
@@ -22,8 +27,11 @@ returns c = search (needs, spelling)
 symbol-byte-requires : tie.Need-symbol-byte-requires Inv-loop μ-loop
 symbol-byte-requires c κs = search (needs, spelling)
 
-array-write-bytes : tie.Need-array-write-bytes Inv-loop μ-loop
-array-write-bytes c = search (needs, spelling)
+slice-write-out : tie.Need-slice-write-out Inv-loop μ-loop
+slice-write-out c = search (needs, spelling)
+
+add-to : tie.Need-add-to Inv-loop μ-loop
+add-to c = search (needs, spelling)
 
 add-n : tie.Need-add-n Inv-loop μ-loop
 add-n c = search (needs, spelling)
@@ -33,6 +41,9 @@ loop-less c = search (needs, spelling)
 
 loop-again : tie.Need-loop-again Inv-loop μ-loop
 loop-again c = search (needs, spelling)
+
+same-length-2 : tie.Need-same-length-2 Inv-loop μ-loop
+same-length-2 c = search (needs, spelling)
 
 returns-2 : tie.Need-returns-2 Inv-loop μ-loop
 returns-2 c = search (needs, spelling)
@@ -44,10 +55,13 @@ spell-spec =
     Inv-loop
     μ-loop
     loop-holds
+    same-length
     returns
     symbol-byte-requires
-    array-write-bytes
+    slice-write-out
+    add-to
     add-n
     loop-less
     loop-again
+    same-length-2
     returns-2)

@@ -1,5 +1,5 @@
 use borrow.Author.Needs.{needs}
-use Rattle.space.proofs.Laws.{part-back}
+use Rattle.theory.specs.Writing.Lent.{part-back}
 use Rattle.space.proofs.line_at.Statement.{statement}
 use Rattle.space.proofs.line_at.Tie as tie
 

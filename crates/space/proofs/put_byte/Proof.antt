@@ -1,5 +1,5 @@
 use borrow.Author.Needs.{needs}
-use Rattle.space.proofs.Laws.{byte-put}
+use Rattle.theory.specs.Writing.Lent.{byte-put}
 use Rattle.space.proofs.put_byte.Statement.{statement}
 use Rattle.space.proofs.put_byte.Tie as tie
 

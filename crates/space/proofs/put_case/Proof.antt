@@ -9,8 +9,8 @@ slice-aggregate-put-text c = search (needs, casing)
 put-text-requires : tie.Need-put-text-requires
 put-text-requires c κs = search (needs, casing)
 
-put-name-requires : tie.Need-put-name-requires
-put-name-requires c κs = search (needs, casing)
+spell-requires : tie.Need-spell-requires
+spell-requires c κs = search (needs, casing)
 
 put-byte-requires : tie.Need-put-byte-requires
 put-byte-requires c κs = search (needs, casing)
@@ -27,7 +27,7 @@ put-case-spec =
     (tie.spec
     slice-aggregate-put-text
     put-text-requires
-    put-name-requires
+    spell-requires
     put-byte-requires
     same-length
     returns)

@@ -3,8 +3,8 @@ use Rattle.space.proofs.Laws.{lining}
 use Rattle.space.proofs.put_line.Statement.{statement}
 use Rattle.space.proofs.put_line.Tie as tie
 
-put-name-requires : tie.Need-put-name-requires
-put-name-requires c κs = search (needs, lining)
+spell-requires : tie.Need-spell-requires
+spell-requires c κs = search (needs, lining)
 
 put-byte-requires : tie.Need-put-byte-requires
 put-byte-requires c κs = search (needs, lining)
@@ -25,7 +25,7 @@ pub put-line-spec : {M : Type 1} → statement M
 put-line-spec =
     tie.close
     (tie.spec
-    put-name-requires
+    spell-requires
     put-byte-requires
     put-text-requires
     put-byte-requires-2

@@ -1,7 +1,7 @@
 use borrow.Author.Needs.{needs}
 use Prim.Native.Nat.{_-_}
 use lib.ListN.{drop, length}
-use Rattle.space.proofs.Laws.{Left}
+use Rattle.theory.specs.Writing.Lent.{Left}
 use Rattle.space.proofs.Laws.{texting}
 use Rattle.space.proofs.put_text.Statement.{statement}
 use Rattle.space.proofs.put_text.Tie as tie

@@ -1,2 +1,0 @@
--- Texts at a place of lent space:
-pub mod Answers
