@@ -68,7 +68,6 @@ pub fn list_case(sheet: Accepted, moment: Moment, patterns: &mut [u32; limits::P
     ensures answer { λ r. ⌜ r ≡ asListed sheet moment ⌝ }
     ensures space { λ r. ⌜ now (patterns .exit) ≡ listSpace sheet moment (now (patterns .entry)) ⌝ }
 {
-    let plan = sheet.plan;
     let mut flat = [0u32; outlook_parts::ROOM];
     let mut lens = [0usize; limits::FIELDS];
     let count = outlook_parts::fill(
@@ -82,7 +81,15 @@ pub fn list_case(sheet: Accepted, moment: Moment, patterns: &mut [u32; limits::P
     if count == 0 {
         return Listed::Many;
     }
-    let n = collect(plan, &sheet.words, moment, count, &lens, &flat, patterns);
+    let n = collect(
+        sheet.plan,
+        &sheet.words,
+        moment,
+        count,
+        &lens,
+        &flat,
+        patterns,
+    );
     Listed::Patterns(n)
 }
 

@@ -27,7 +27,7 @@ use Rattle.sheet_tables.specs.Heads.{asHeads, underCode}
 use Rattle.sheet_section.specs.declared.HeadsRead.{HeadsRead}
 use Rattle.sheet_section.specs.declared.RowName.{RowName}
 use Rattle.sheet_section.specs.declared.RowName.the-variants as R
-use Rattle.sheet_section.specs.Answers.{asHeadsRead, refusal, leftWith, rowName, told, soFar}
+use Rattle.sheet_section.specs.Answers.{asHeadsRead, refusal, rowName, told, soFar}
 use Rattle.sheet_section.specs.Held.{Plain, Started}
 use Rattle.sheet_section.proofs.Rows.{tabled, counted, plain-well, stages-known}
 use Rattle.sheet_section.proofs.Sections.{read-handed, read-from, Going, going-start, next, going-more, RowTold, going-row}
@@ -35,7 +35,7 @@ use Rattle.sheet_statuses.specs.declared.Under.{Under}
 use Rattle.sheet_statuses.specs.declared.Under.the-variants as U
 use Rattle.sheet_statuses.specs.declared.Row.{Row}
 use Rattle.sheet_statuses.specs.declared.Row.the-variants as W
-use Rattle.sheet_statuses.specs.Answers.{asUnder, underFault, statusRow, statusKey, withStatus, linesOf, Before, Behind}
+use Rattle.sheet_statuses.specs.Answers.{asUnder, statusRow, statusKey, withStatus, linesOf, Before, Behind}
 use Rattle.sheet_statuses.proofs.Ends.{under-ends, underKind}
 use Rattle.sheet_statuses.proofs.OneRow.{row-is-left, row-is-off, row-is-on}
 
@@ -190,139 +190,96 @@ module _ (s key : List ℕ) (before : HeadsRead) (miles : Bool) (mile stage firs
   unfolding statuses
   size-is = omega (arith, length-append (hd .stages) (hd .miles), counted _ _ (i .going .is))
 
-  module _ (v : List ℕ) (o : RowName) (rest : v ≡ drop at s) (read : o ≡ rowName key (leb statusLimit (h .stages + h .miles))
-      (take count (namesIn (h .names))) v) where
-    row : RowTold (i .going) (tail miles hd) count o
-    row =
-        going-row (i .going) (tail miles hd) (rows miles hd) count (counted _ _ (i .going .is) .4) statusLimit (h .stages + h .miles)
-        (omega (arith, size-is)) v o rest (rw (i .key-is) at read)
-
-    one-left : (k : ℕ) → o ≡ R.Left k → (f : ℕ) → f ≡ leftWith o → (l : ℕ) → l ≡ line → (r : HeadsRead) → r ≡ told f l at h
-        → r ≡ asHeadsRead s (whole miles s before)
-    one-left k e f g l z r q = rw (q, g, e, z) (rw e at row)
-
-    module _ (w : Kept) (k : ℕ) (e : o ≡ R.Name w k) where
-      begun : RowTold (i .going) (tail miles hd) count (R.Name w k)
-      begun = rw e at row
-
-      one-room : Fits w64 (at + k)
-      one-room = omega (arith, begun .1 .within, i .small)
-
-      one-index : h .stages + h .miles < statusLimit
-      one-index = omega (arith, begun .0 .room, size-is)
-
-      one-names : count < nameRoom
-      one-names = omega (arith, one-index, i .going .counts)
-
-      one-less : statusLimit - (h .stages + stage + (h .miles + mile)) < statusLimit - (h .stages + h .miles)
-      one-less = omega (arith, one-index, i .counts)
-
-      module _ (t : List ℕ) (p : Under) (from : t ≡ drop (at + k) s)
-          (asked : p ≡ asUnder t (under (take (h .fields + h .events + h .stages - (h .fields + h .events))
-          (drop (h .fields + h .events) (namesIn (h .names)))) 0 t)) where
-        abbrev stages : List Name
-        stages = statusNames (hd .stages)
-
-        ended : p ≡ asUnder t (under stages 0 t)
-        ended =
-            let c = counted _ _ (i .going .is) in
-            rw (stages-known h hd (i .going .is) (i .going .plain) (h .fields + h .events) (h .fields + h .events + h .stages) (omega arith)
-            (omega arith)) at asked
-
-        one-wrong : (n : ℕ) → p ≡ U.Refused n → (f : ℕ) → f ≡ underFault p → (l : ℕ) → l ≡ line → (r : HeadsRead) → r ≡ refusal f l
-            → r ≡ asHeadsRead s (whole miles s before)
-        one-wrong n given f g l z r q =
-            q ∙ rw (z, g, given, left-off underKind (under-ends stages) _ (begun .1) t from p ended n (ap (underKind .size) given))
-
-        module _ (u j : ℕ) (given : p ≡ U.Stage u j) where
-          placed : Next underKind (λ o n. (underCode o ≤ length stages) × (1 ≤ n)) (whole miles s before)
-              (λ o. next (i .going) (withStatus miles hd (record { name = begun .0 .name; under = o }))) (suc line) (at + k) s p j
-          placed = left-on underKind (under-ends stages) _ (begun .1) t from p ended j (ap (underKind .size) given)
-
-          code-is : u ≡ underCode (placed .value)
-          code-is = let same = placed .same in cc
-
-          one-end : Fits w64 (at + k + j)
-          one-end = omega (arith, placed .left .within, i .small)
-
-          one-byte : Fits w8 u
-          unfolding statusNames
-          one-byte =
-              omega (arith, code-is, placed .holds .0, length-map (hd .stages) (λ (x : Status). x .name), counted _ _ (i .going .is), i .going .counts)
-
-          one-more : (at′ : ℕ) → at′ ≡ at + k + j → (ns : List ℕ) → ns ≡ putIn (h .names) count w
-              → Statuses s key before miles mile stage first (tabled (h .model) (h .fields) (h .events) (h .stages + stage) (h .miles + mile) ns (h .carried)
-              (h .carries) (set (h .under) (h .stages + h .miles) u)) at′
-          one-more at′ y ns p =
-              let g = i .going in
-              let a : Status = record { name = begun .0 .name; under = placed .value } in
-              let c = counted _ _ (g .is) in
-              let x-is : h .stages + h .miles ≡ length (hd .stages) + length (hd .miles) = omega arith in
-              let one : length (statuses (withStatus miles hd a)) ≡ length (statuses hd) + 1 = ap length (statuses-row hd a miles (g .late)) ∙ length-append
-              (statuses hd) (a ∷ []) in
-              record {
-                small = i .small;
-                since = omega (arith, i .since);
-                key-is = i .key-is;
-                counts = i .counts;
-                going =
-                    going-more g (begun .0) one-names (withStatus miles hd a) (behind-row hd a miles (g .late)) one (names-row hd a miles (g .late)) at′
-                    (before .line + (h .stages + stage + (h .miles + mile) - first)) (omega (arith, placed .holds .1)) (omega (arith, i .since, i .counts))
-                    (rw y (placed .left)) _
-                    (λ e. heads-row hd a miles (g .late) h (g .is) u (h .stages + h .miles) mile stage code-is x-is one-index (i .counts .0)
-                    (i .counts .1) ns (p ∙ e))
-                    (plain-row hd a miles (g .late) (omega (arith, x-is, one-index)) (g .plain));
-              }
-
-  -- by the row's answer
+  -- by the answer on the row
   module _ (v : List ℕ) (r : Row) (rest : v ≡ drop at s) (read : r ≡ statusRow key (leb statusLimit (h .stages + h .miles)) (namesIn (h .names)) count
       (h .fields + h .events) (h .fields + h .events + h .stages) v) where
+    abbrev named : List ℕ → RowName
+    named key = rowName key (leb statusLimit (h .stages + h .miles)) (take count (namesIn (h .names))) v
+
+    row : RowTold (i .going) (tail miles hd) count (named key)
+    row =
+        going-row (i .going) (tail miles hd) (rows miles hd) count (counted _ _ (i .going .is) .4) statusLimit (h .stages + h .miles)
+        (omega (arith, size-is)) v (named key) rest (ap named (i .key-is))
+
+    abbrev stages : List Name
+    stages = statusNames (hd .stages)
+
+    -- the line's end behind k bytes
     behind : (k : ℕ) → drop k v ≡ drop (at + k) s
     behind k = rw (rest, drop-drop k at s)
 
-    abbrev name-read : RowName
-    name-read = rowName key (leb statusLimit (h .stages + h .miles)) (take count (namesIn (h .names))) v
+    end : (k : ℕ) (p : Under) → asUnder (drop k v) (under (take (h .fields + h .events + h .stages - (h .fields + h .events)) (drop (h .fields + h .events)
+        (namesIn (h .names)))) 0 (drop k v)) ≡ p → p ≡ asUnder (drop k v) (under stages 0 (drop k v))
+    end k p is =
+        let c = counted _ _ (i .going .is) in
+        rw (stages-known h hd (i .going .is) (i .going .plain) (h .fields + h .events) (h .fields + h .events + h .stages) (omega arith) (omega arith)) at
+        (sym is)
 
     pub statuses-left : (k : ℕ) → r ≡ W.Left k → (l : ℕ) → l ≡ line → (q : HeadsRead) → q ≡ told k l at h → q ≡ asHeadsRead s (whole miles s before)
-    statuses-left k e l z q is =
-        let o = row-is-left _ _ _ _ _ _ v r read k e in
-        one-left v name-read rest refl k o k (sym (ap leftWith o)) l z q is
+    statuses-left k e l z q is = rw (is, z) (rw (row-is-left _ _ _ _ _ _ v r read k e) at row)
 
     pub statuses-wrong : (n : ℕ) → r ≡ W.Refused n → (l : ℕ) → l ≡ line → (q : HeadsRead) → q ≡ refusal n l → q ≡ asHeadsRead s (whole miles s before)
     statuses-wrong n e l z q is =
         let (w, k, o, p) = row-is-off _ _ _ _ _ _ v r read n e in
-        one-wrong v name-read rest refl w k o (drop k v) _ (behind k) refl n p n (sym (ap underFault p)) l z q is
+        let begun : RowTold (i .going) (tail miles hd) count (R.Name w k) = rw o at row in
+        is ∙ rw (z, left-off underKind (under-ends stages) _ (begun .1) (drop k v) (behind k) (U.Refused n) (end k (U.Refused n) p) n refl)
 
     module _ (w : Kept) (k u j : ℕ) (e : r ≡ W.Status w k u j) where
-      named : name-read ≡ R.Name w k
-      named = row-is-on _ _ _ _ _ _ v r read w k u j e .0
+      begun : RowTold (i .going) (tail miles hd) count (R.Name w k)
+      begun = rw (row-is-on _ _ _ _ _ _ v r read w k u j e .0) at row
 
-      placed-at : asUnder (drop k v) (under (take (h .fields + h .events + h .stages - (h .fields + h .events)) (drop (h .fields + h .events)
-          (namesIn (h .names)))) 0 (drop k v)) ≡ U.Stage u j
-      placed-at = row-is-on _ _ _ _ _ _ v r read w k u j e .1
+      placed : Next underKind (λ o n. (underCode o ≤ length stages) × (1 ≤ n)) (whole miles s before)
+          (λ o. next (i .going) (withStatus miles hd (record { name = begun .0 .name; under = o }))) (suc line) (at + k) s (U.Stage u j) j
+      placed =
+          left-on underKind (under-ends stages) _ (begun .1) (drop k v) (behind k) (U.Stage u j) (end k (U.Stage u j)
+          (row-is-on _ _ _ _ _ _ v r read w k u j e .1)) j refl
+
+      code-is : u ≡ underCode (placed .value)
+      code-is = let same = placed .same in cc
 
       pub statuses-room : (n : ℕ) → n ≡ at + k → Fits w64 n
-      statuses-room n z = rw z (one-room v name-read rest refl w k named)
-
-      pub statuses-index : h .stages + h .miles < statusLimit
-      statuses-index = one-index v name-read rest refl w k named
-
-      pub statuses-names : count < nameRoom
-      statuses-names = one-names v name-read rest refl w k named
-
-      pub statuses-less : statusLimit - (h .stages + stage + (h .miles + mile)) < statusLimit - (h .stages + h .miles)
-      statuses-less = one-less v name-read rest refl w k named
+      statuses-room n z = omega (arith, begun .1 .within, i .small)
 
       pub statuses-end : (n : ℕ) → n ≡ at + k + j → Fits w64 n
-      statuses-end n z = rw z (one-end v name-read rest refl w k named (drop k v) _ (behind k) refl u j placed-at)
+      statuses-end n z = omega (arith, placed .left .within, i .small)
+
+      pub statuses-index : h .stages + h .miles < statusLimit
+      statuses-index = omega (arith, begun .0 .room, size-is)
+
+      pub statuses-names : count < nameRoom
+      statuses-names = omega (arith, statuses-index, i .going .counts)
+
+      pub statuses-less : statusLimit - (h .stages + stage + (h .miles + mile)) < statusLimit - (h .stages + h .miles)
+      statuses-less = omega (arith, statuses-index, i .counts)
 
       pub statuses-byte : Fits w8 u
-      statuses-byte = one-byte v name-read rest refl w k named (drop k v) _ (behind k) refl u j placed-at
+      unfolding statusNames
+      statuses-byte =
+          omega (arith, code-is, placed .holds .0, length-map (hd .stages) (λ (x : Status). x .name), counted _ _ (i .going .is), i .going .counts)
 
       pub statuses-more : (at′ : ℕ) → at′ ≡ at + k + j → (ns : List ℕ) → ns ≡ putIn (h .names) count w
           → Statuses s key before miles mile stage first (tabled (h .model) (h .fields) (h .events) (h .stages + stage) (h .miles + mile) ns (h .carried)
           (h .carries) (set (h .under) (h .stages + h .miles) u)) at′
-      statuses-more = one-more v name-read rest refl w k named (drop k v) _ (behind k) refl u j placed-at
+      statuses-more at′ y ns p =
+          let g = i .going in
+          let a : Status = record { name = begun .0 .name; under = placed .value } in
+          let c = counted _ _ (g .is) in
+          let x-is : h .stages + h .miles ≡ length (hd .stages) + length (hd .miles) = omega arith in
+          let one : length (statuses (withStatus miles hd a)) ≡ length (statuses hd) + 1 = ap length (statuses-row hd a miles (g .late)) ∙ length-append
+          (statuses hd) (a ∷ []) in
+          record {
+            small = i .small;
+            since = omega (arith, i .since);
+            key-is = i .key-is;
+            counts = i .counts;
+            going =
+                going-more g (begun .0) statuses-names (withStatus miles hd a) (behind-row hd a miles (g .late)) one (names-row hd a miles (g .late)) at′
+                (before .line + (h .stages + stage + (h .miles + mile) - first)) (omega (arith, placed .holds .1)) (omega (arith, i .since, i .counts))
+                (rw y (placed .left)) _
+                (λ e. heads-row hd a miles (g .late) h (g .is) u (h .stages + h .miles) mile stage code-is x-is statuses-index (i .counts .0)
+                (i .counts .1) ns (p ∙ e))
+                (plain-row hd a miles (g .late) (omega (arith, x-is, statuses-index)) (g .plain));
+          }
 
 pub ruleset statusing = (
   statuses-start,
