@@ -60,10 +60,11 @@ fn puts_refused(number: u8) -> PutsRead
 }
 
 // What is put into the field with the number `f`, from the place `at` on.
-fn read_put(h: Heads, s: &[u8], f: u8, at: usize) -> ValuePiece
-    ensures { λ r. ⌜ r ≡ asValue (length (getD (namesIn (h .names)) f []) + 2) (spaced (getD (namesIn (h .names)) f []) 0 (drop at (now (s .entry)))) ⌝ }
+fn read_put(names: &[u64], s: &[u8], f: u8, at: usize) -> ValuePiece
+    ensures { λ r. ⌜ r ≡ asValue (length (getD (namesIn (now (names .entry))) f []) + 2)
+        (spaced (getD (namesIn (now (names .entry))) f []) 0 (drop at (now (s .entry)))) ⌝ }
 {
-    card_lines::put_piece(text::rest(s, at), name::at(&h.names, case_tables::place(f)))
+    card_lines::put_piece(text::rest(s, at), name::at(names, case_tables::place(f)))
 }
 
 // The pairs of an event line, one for each field that the event carries, from the place `from` on.
@@ -80,7 +81,7 @@ fn read_puts(h: Heads, s: &[u8], event: usize, from: usize) -> PutsRead
     let mut i = 0;
     while i < count {
         let f = h.carried[limits::FIELDS * event + i];
-        let p = read_put(h, s, f, at);
+        let p = read_put(&h.names, s, f, at);
         match p {
             ValuePiece::Refused(number) => return puts_refused(number),
             ValuePiece::Value(v, n, k) => {
