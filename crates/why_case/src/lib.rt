@@ -234,11 +234,10 @@ fn list_all(sheet: Accepted, moment: Moment, reasons: &mut [u32; limits::TESTS])
     requires { ⌜ Ready sheet moment ⌝ }
     ensures { λ r. ⌜ Put (listOf sheet moment) 0 r (now (reasons .entry)) (now (reasons .exit)) ⌝ }
 {
-    let plan = sheet.plan;
-    let step = step_run::run_step(plan, &sheet.words, moment);
+    let step = step_run::run_step(sheet.plan, &sheet.words, moment);
     let after = step.marks;
-    let rows = tell_rows(plan, &sheet.words, moment, &after);
-    let spans = row_spans(plan);
+    let rows = tell_rows(sheet.plan, &sheet.words, moment, &after);
+    let spans = row_spans(sheet.plan);
     let before = moment.before;
     let from = spans.from;
     let to = spans.to;
@@ -251,7 +250,7 @@ fn list_all(sheet: Accepted, moment: Moment, reasons: &mut [u32; limits::TESTS])
         under,
         line: 2 + sheet.heads.fields + sheet.heads.events,
     };
-    put_all(facts, &rows, plan.nodes / 2, reasons)
+    put_all(facts, &rows, sheet.plan.nodes / 2, reasons)
 }
 
 // Why, for a sheet at a moment: the reasons at the start of `out`, and how many there are; or ROOM where they do not fit.

@@ -14,11 +14,11 @@ tell-rows-requires c κs = search (needs, gathering)
 row-spans-requires : tie.Need-row-spans-requires
 row-spans-requires c κs = search (needs, gathering)
 
-add-t23 : tie.Need-add-t23
-add-t23 c = search (needs, gathering)
+add-put-all : tie.Need-add-put-all
+add-put-all c = search (needs, gathering)
 
-add-t25 : tie.Need-add-t25
-add-t25 c = search (needs, gathering)
+add-put-all-2 : tie.Need-add-put-all-2
+add-put-all-2 c = search (needs, gathering)
 
 slice-aggregate-put-all : tie.Need-slice-aggregate-put-all
 slice-aggregate-put-all c = search (needs, gathering)
@@ -36,8 +36,8 @@ list-all-spec =
     run-step-requires
     tell-rows-requires
     row-spans-requires
-    add-t23
-    add-t25
+    add-put-all
+    add-put-all-2
     slice-aggregate-put-all
     put-all-requires
     returns)
