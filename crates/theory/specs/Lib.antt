@@ -14,7 +14,7 @@ pub mod Outlook
 pub mod Reading
 -- What was read: names, conditions and sheets, numbers, cards and event lines, and a case that was taken:
 pub mod Papers
--- What is written: a card is read back, so a step's result is again accepted; every card read is so written, and every event line:
+-- What is written: a card is read back, so a step's result is again accepted; every card read is so written, and every event line; texts put into lent space:
 pub mod Writing
 -- The reasons: what stops a line, what is told of one status, and all of them:
 pub mod Why
