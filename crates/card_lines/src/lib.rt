@@ -12,14 +12,14 @@ use number::EntryPiece;
 use text::Bytes;
 
 // `NAME=` and a value: the value, behind how many bytes its text stands and how long that is; or the refusal's number.
-#[derive(Drop)]
+#[derive(Clone, Copy)]
 pub enum ValuePiece {
     Value(u64, usize, usize),
     Refused(u8),
 }
 
 // The mark of a status, and how many bytes it took; or the refusal's number.
-#[derive(Drop)]
+#[derive(Clone, Copy)]
 pub enum MarkPiece {
     Mark(u8, usize),
     Refused(u8),

@@ -20,7 +20,7 @@ use text::Bytes;
 const FIRST: usize = 2;
 
 // The card; or a refusal's number, not 0, and its line.
-#[derive(Drop)]
+#[derive(Clone, Copy)]
 pub struct CardRead {
     pub number: u8,
     pub line: usize,
@@ -28,14 +28,14 @@ pub struct CardRead {
 }
 
 // The place of the first stage that is yes under a parent that is no.
-#[derive(Drop)]
+#[derive(Clone, Copy)]
 enum Orphan {
     At(usize),
     Nothing,
 }
 
 // The lines of the fields: the line and the place come to, and the values; or a refusal's number, not 0, and its line.
-#[derive(Drop)]
+#[derive(Clone, Copy)]
 struct FieldsRead {
     number: u8,
     line: usize,
@@ -46,7 +46,7 @@ struct FieldsRead {
 }
 
 // The lines of the statuses, told in the same way.
-#[derive(Drop)]
+#[derive(Clone, Copy)]
 struct MarksRead {
     number: u8,
     line: usize,

@@ -15,7 +15,7 @@ use name::{Found, Name};
 use sheet_tables::Heads;
 
 // How many bytes were written, or that there is not room enough.
-#[derive(Drop)]
+#[derive(Clone, Copy)]
 pub enum Written {
     Bytes(usize),
     Room,

@@ -7,7 +7,7 @@ use case_tables::{Card, Happening};
 use step_sheet::Accepted;
 
 // What card and event line say, and the accepted sheet under which they do; or a refusal's number, not 0, its paper and its line.
-#[derive(Drop)]
+#[derive(Clone, Copy)]
 pub struct Case {
     pub number: u8,
     pub paper: u8,

@@ -2,7 +2,7 @@
 ghost use Rattle.std.specs.Prelude.{◌≡◌};
 
 // A card: of each field its value's code and where its text stands; of each status its mark.
-#[derive(Drop)]
+#[derive(Clone, Copy)]
 pub struct Card {
     pub values: marks::Values,
     pub starts: [usize; limits::FIELDS],
@@ -11,7 +11,7 @@ pub struct Card {
 }
 
 // An event line: the event, and of each field that it carries the value and where its text stands.
-#[derive(Drop)]
+#[derive(Clone, Copy)]
 pub struct Happening {
     pub event: usize,
     pub count: usize,

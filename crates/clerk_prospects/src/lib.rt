@@ -13,7 +13,7 @@ use name::Name;
 use sheet_tables::Heads;
 
 // The bits that all patterns have, and those that some pattern has.
-#[derive(Drop)]
+#[derive(Clone, Copy)]
 struct Common {
     all: u32,
     some: u32,

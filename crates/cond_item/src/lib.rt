@@ -10,14 +10,14 @@ use cond_leaf::LeafRead;
 use text::Bytes;
 
 // How far a condition was read: its bytes, and the words and leaves that there are behind it.
-#[derive(Drop)]
+#[derive(Clone, Copy)]
 pub struct Place {
     pub bytes: usize,
     pub top: usize,
     pub leaves: usize,
 }
 
-#[derive(Drop)]
+#[derive(Clone, Copy)]
 pub enum CondRead {
     At(Place),
     Refused(u8),

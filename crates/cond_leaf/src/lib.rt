@@ -12,7 +12,7 @@ use name::{Found, Name, NamePiece};
 use number::NumberPiece;
 
 // The sign of a comparison.
-#[derive(Drop)]
+#[derive(Clone, Copy)]
 enum Sign {
     Below,
     AtMost,
@@ -22,14 +22,14 @@ enum Sign {
 }
 
 // A sign, and how many bytes it took; or the refusal's number.
-#[derive(Drop)]
+#[derive(Clone, Copy)]
 enum SignRead {
     Sign(Sign, usize),
     Refused(u8),
 }
 
 // A leaf: its word, and how many bytes it took; or the refusal's number.
-#[derive(Drop)]
+#[derive(Clone, Copy)]
 pub enum LeafRead {
     Word(u64, usize),
     Refused(u8),

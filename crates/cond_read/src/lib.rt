@@ -10,7 +10,7 @@ ghost use Rattle.cond_read.specs.Parts.{items, and_lists, conditions, Gives};
 use cond_item::{CondRead, Place};
 
 // What stands around a part: how many more nots and groups may, and whether those that do negate it.
-#[derive(Drop)]
+#[derive(Clone, Copy)]
 struct Around {
     nest: usize,
     neg: bool,

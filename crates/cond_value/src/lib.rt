@@ -1,4 +1,6 @@
 // The value of a condition in its flat form, as a mark's code.
+#![tactic(auto)]
+
 ghost use Rattle.std.specs.Prelude.{◌≡◌, ◌-◌, ◌≤◌, eqb, ltb, take, drop};
 ghost use Rattle.meaning.specs.Kleene.{known₃};
 ghost use Rattle.marks.specs.Codes.{code, mark_of};

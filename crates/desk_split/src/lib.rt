@@ -1,4 +1,6 @@
 // Where the papers end in a program's input, and where the lines of a paper start.
+#![tactic(auto)]
+
 ghost use Rattle.std.specs.Prelude.{◌≡◌, true, ◌&&◌, ◌++◌, ◌-◌, length, take};
 ghost use Rattle.meaning.specs.Text.{text, begins};
 ghost use Rattle.meaning.specs.Desk.{line_length, paper_length};

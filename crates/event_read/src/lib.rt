@@ -20,7 +20,7 @@ use number::End;
 use sheet_tables::Heads;
 
 // The event line; or a refusal's number, not 0, and its line.
-#[derive(Drop)]
+#[derive(Clone, Copy)]
 pub struct EventRead {
     pub number: u8,
     pub line: usize,
@@ -28,7 +28,7 @@ pub struct EventRead {
 }
 
 // An event line up to its end: the place come to, and what it tells; or a refusal's number, not 0.
-#[derive(Drop)]
+#[derive(Clone, Copy)]
 struct PutsRead {
     number: u8,
     at: usize,

@@ -1,4 +1,6 @@
 // A circle of a graph that has no testing order. A set of nodes is a mask, as in `graph_order`: bit p of mask k is the edge from p to k.
+#![tactic(auto)]
+
 ghost use Rattle.std.specs.Prelude.{◌≡◌, [], ◌∷◌, ◌+◌, ◌-◌, ◌≤◌, ◌<◌, ◌^◌, length, take, drop};
 ghost use Rattle.meaning.specs.Text.{from};
 ghost use Rattle.meaning.specs.Circle.{stuck, up_to, go_back, circle_for};
@@ -9,14 +11,14 @@ ghost use Rattle.graph_circle.specs.Answers.{first_of, as_found, as_circle};
 use graph_order::Free;
 
 // The nodes of a circle in the direction of the edges, and how many they are; none where the graph has a testing order.
-#[derive(Drop)]
+#[derive(Clone, Copy)]
 pub struct Circle {
     pub len: usize,
     pub nodes: [u8; limits::NODES],
 }
 
 // The lowest node of a mask, if there is one.
-#[derive(Drop)]
+#[derive(Clone, Copy)]
 enum Found {
     Node(usize),
     Nothing,

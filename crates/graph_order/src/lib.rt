@@ -1,4 +1,6 @@
 // The testing order of a graph, or none where it has a cycle. A set of nodes is a mask: bit p is node p.
+#![tactic(auto)]
+
 ghost use Rattle.std.specs.Prelude.{◌≡◌, not, ◌&&◌, ◌||◌, ℕ, ◌-◌, ◌≤◌, ◌<◌, ◌^◌, eqb, ltb};
 ghost use Rattle.meaning.specs.Graph.{order_for, first_free};
 ghost use Rattle.limits.specs.Sizes.{node_room};
@@ -6,14 +8,14 @@ ghost use Rattle.graph_order.specs.Masks.{width, has, members, mask_into, meet, 
 ghost use Rattle.graph_order.specs.Answers.{as_sorting, as_free};
 
 // Whether there is a testing order, and the nodes in its order.
-#[derive(Drop)]
+#[derive(Clone, Copy)]
 pub struct Sorting {
     pub found: bool,
     pub order: [u8; limits::NODES],
 }
 
 // The first node that waits for none of those left, if there is one.
-#[derive(Drop)]
+#[derive(Clone, Copy)]
 pub enum Free {
     Node(usize),
     Stuck,

@@ -6,7 +6,7 @@ ghost use Rattle.graph_tests.specs.Table.{no_test, rule_test, closes, rule_rows,
 use sheet_tables::{Rule, Rules, Trigger};
 
 // What is tested for one node.
-#[derive(Drop)]
+#[derive(Clone, Copy)]
 pub struct Test {
     pub node: u8,
     // A stage that must be yes after: 0 for none, otherwise the stage's place and 1 more.
@@ -20,7 +20,7 @@ pub struct Test {
 }
 
 // The tests: a sheet's rules and child stages.
-#[derive(Drop)]
+#[derive(Clone, Copy)]
 pub struct Tests {
     pub rows: [Test; limits::TESTS],
     pub count: usize,

@@ -1,4 +1,6 @@
 // The codes of marks and of values: a mark is no, unknown or yes; a value is 0 for `?`, otherwise its place on the scale and 1 more.
+#![tactic(auto)]
+
 ghost use Rattle.std.specs.Prelude.{◌≡◌, get_or};
 ghost use Rattle.marks.specs.Codes.{yes_at};
 

@@ -1,4 +1,6 @@
 // Names: how one is kept, read and spelt, tables of names, and names looked up there. How a name is packed is known in this crate alone.
+#![tactic(auto)]
+
 ghost use Rattle.std.specs.Prelude.{◌≡◌, [], map, true, ◌+◌, ◌-◌, ◌≤◌, ◌<◌, length, take, drop};
 ghost use Rattle.meaning.specs.Text.{run, is_in};
 ghost use Rattle.meaning.specs.Limits.{name_bytes};
@@ -13,7 +15,7 @@ ghost use Rattle.name.specs.Answers.{as_name, as_known, name_fault, known_fault,
 use text::Bytes;
 
 // A name as it is kept: its symbols packed into one number.
-#[derive(Drop)]
+#[derive(Clone, Copy)]
 pub struct Name {
     pub word: u64,
 }
@@ -22,21 +24,21 @@ pub struct Name {
 pub type Table = [u64; limits::NAMES];
 
 // A name, and how many bytes it took; or the refusal's number.
-#[derive(Drop)]
+#[derive(Clone, Copy)]
 pub enum NamePiece {
     Name(Name, usize),
     Refused(u8),
 }
 
 // A name of a table: its place there, and how many bytes it took; or the refusal's number.
-#[derive(Drop)]
+#[derive(Clone, Copy)]
 pub enum Known {
     At(usize, usize),
     Refused(u8),
 }
 
 // Where something stands first.
-#[derive(Drop)]
+#[derive(Clone, Copy)]
 pub enum Found {
     At(usize),
     Nothing,

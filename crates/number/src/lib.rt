@@ -1,4 +1,6 @@
 // Numbers and values. A number is told by its place on the scale: the number and 1000000000 more. A value is 0 for `?`, and otherwise its place and 1 more.
+#![tactic(auto)]
+
 ghost use Rattle.std.specs.Prelude.{◌≡◌, ◌+◌, ◌<◌, eqb};
 ghost use Rattle.meaning.specs.Reading.{closed};
 ghost use Rattle.meaning.specs.Name.{digit};
@@ -8,28 +10,28 @@ ghost use Rattle.number.specs.Answers.{as_number, as_entry, as_end};
 ghost use Rattle.number.specs.Digits.{needless_zero, amount_run, digits_run};
 
 // A number: its place, and how many bytes it took; or the refusal's number.
-#[derive(Drop)]
+#[derive(Clone, Copy)]
 pub enum NumberPiece {
     Number(u64, usize),
     Refused(u8),
 }
 
 // A number or `?`: the value, and how many bytes it took; or the refusal's number.
-#[derive(Drop)]
+#[derive(Clone, Copy)]
 pub enum EntryPiece {
     Entry(u64, usize),
     Refused(u8),
 }
 
 // The last line: read, or the refusal's number and whether it is told of the line behind.
-#[derive(Drop)]
+#[derive(Clone, Copy)]
 pub enum End {
     Done,
     Refused(u8, usize),
 }
 
 // A run of digits: its value and its length, where it stands for one in the range.
-#[derive(Drop)]
+#[derive(Clone, Copy)]
 enum Digits {
     Good(u64, usize),
     Wrong,

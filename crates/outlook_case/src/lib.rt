@@ -56,7 +56,7 @@ fn collect(
 }
 
 // How many patterns there are, or that the parts are too many.
-#[derive(Drop)]
+#[derive(Clone, Copy)]
 pub enum Listed {
     Patterns(usize),
     Many,

@@ -1,4 +1,6 @@
 // The choice with a number, of one number from each of 16 lists.
+#![tactic(auto)]
+
 ghost use Rattle.std.specs.Prelude.{◌≡◌, ◌≤◌, ◌<◌, length};
 ghost use Rattle.meaning.specs.Limits.{field_limit};
 ghost use Rattle.outlook_combos.specs.Numbered.{split, sum, product, choice};

@@ -1,4 +1,6 @@
 // The cuts of a field, from the words of conditions.
+#![tactic(auto)]
+
 ghost use Rattle.std.specs.Prelude.{◌+◌, ◌*◌, ◌≤◌, ◌<◌, length, take};
 ghost use Rattle.theory.specs.Lists.Ascending.{Up};
 ghost use Rattle.sets.specs.Front.{Front};

@@ -1,4 +1,6 @@
 // The values to be tried in each field: the lowest of each part of a missing field, and what is known.
+#![tactic(auto)]
+
 ghost use Rattle.std.specs.Prelude.{◌≡◌, ◌+◌, ◌*◌, ◌≤◌, ◌<◌, length, take};
 ghost use Rattle.meaning.specs.Limits.{field_limit};
 ghost use Rattle.limits.specs.Sizes.{word_room};

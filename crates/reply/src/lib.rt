@@ -31,7 +31,7 @@ pub const CARD: u8 = 2;
 pub const EVENT: u8 = 3;
 
 // The numbers that a request returns: number, paper and line of a refusal or 0, how long the card or list is, and the tasks started as a pattern.
-#[derive(Drop)]
+#[derive(Clone, Copy)]
 pub struct Reply {
     pub number: u8,
     pub paper: u8,

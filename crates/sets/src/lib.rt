@@ -1,4 +1,6 @@
 // Ascending lists of distinct numbers in the front of a lent slice.
+#![tactic(auto)]
+
 ghost use Rattle.std.specs.Prelude.{◌≡◌, ◌++◌, ◌≤◌, ◌<◌, ◌&&◌, ltb, eqb, length, get_or, take, drop};
 ghost use Rattle.meaning.specs.Outlook.{insert};
 ghost use Rattle.theory.specs.Lists.Ascending.{Up};

@@ -15,7 +15,7 @@ use sheet_section::{HeadsRead, RowName};
 use sheet_tables::Heads;
 
 // The next piece of an event's line: a field that it carries, and how many bytes that took; the line's end; or the refusal's number.
-#[derive(Drop)]
+#[derive(Clone, Copy)]
 enum Piece {
     Field(usize, usize),
     End,
@@ -23,14 +23,14 @@ enum Piece {
 }
 
 // The first fault of a section; the number is 0 where there is none.
-#[derive(Drop)]
+#[derive(Clone, Copy)]
 struct Fault {
     number: u8,
     line: usize,
 }
 
 // A section that was left with a fault, or with none, and where it was left.
-#[derive(Drop)]
+#[derive(Clone, Copy)]
 struct Scanned {
     fault: Fault,
     at: usize,

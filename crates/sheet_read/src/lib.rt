@@ -10,7 +10,7 @@ use sheet_section::HeadsRead;
 use sheet_tables::{Heads, Rules};
 
 // The tables and the rules; or a refusal's number, not 0, and its line.
-#[derive(Drop)]
+#[derive(Clone, Copy)]
 pub struct SheetRead {
     pub number: u8,
     pub line: usize,

@@ -13,7 +13,7 @@ use sheet_trigger::{Start, StartRead};
 use text::Bytes;
 
 // A rule, how many bytes its line took behind the key, and the words and leaves that there are behind it.
-#[derive(Drop)]
+#[derive(Clone, Copy)]
 pub struct Row {
     pub rule: Rule,
     pub bytes: usize,
@@ -21,7 +21,7 @@ pub struct Row {
     pub leaves: usize,
 }
 
-#[derive(Drop)]
+#[derive(Clone, Copy)]
 pub enum RowRead {
     At(Row),
     Refused(u8),

@@ -14,7 +14,7 @@ use sheet_rule::RowRead;
 use sheet_tables::Rules;
 
 // The rules; or a refusal's number, not 0, and its line, where the first rule would stand on line 0.
-#[derive(Drop)]
+#[derive(Clone, Copy)]
 pub struct RulesRead {
     pub number: u8,
     pub line: usize,
@@ -22,7 +22,7 @@ pub struct RulesRead {
 }
 
 // The rules up to `at`, where their last line is due, and number 0; or a refusal's number, and the rules on the lines before it.
-#[derive(Drop)]
+#[derive(Clone, Copy)]
 struct RowsRead {
     number: u8,
     at: usize,

@@ -8,7 +8,7 @@ use name::{Name, NamePiece};
 use sheet_tables::Heads;
 
 // The tables with the line and the place come to; or a refusal's number, not 0, and its line.
-#[derive(Drop)]
+#[derive(Clone, Copy)]
 pub struct HeadsRead {
     pub number: u8,
     pub line: usize,
@@ -17,7 +17,7 @@ pub struct HeadsRead {
 }
 
 // The name of a row that begins, and how many bytes its key and it took; or with which number the section is left, 0 where no row stands.
-#[derive(Drop)]
+#[derive(Clone, Copy)]
 pub enum RowName {
     Name(Name, usize),
     Left(u8),

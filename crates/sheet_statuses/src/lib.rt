@@ -13,7 +13,7 @@ use name::{Known, Name};
 use sheet_section::{HeadsRead, RowName};
 
 // How a status's line ends: under which stage it stands, as the tables have it, and how many bytes that and LF took; or the refusal's number.
-#[derive(Drop)]
+#[derive(Clone, Copy)]
 enum Under {
     Stage(usize, usize),
     Refused(u8),
@@ -54,7 +54,7 @@ fn under_fault(p: Under) -> u8
 
 // The row of a status: its name, how many bytes its key and that took, under which stage it stands, as the tables have it, and how many bytes that and LF took;
 // or with which number the section is left, 0 where no row stands; or the number of the refusal of the line's end.
-#[derive(Drop)]
+#[derive(Clone, Copy)]
 enum Row {
     Status(Name, usize, usize, usize),
     Left(u8),

@@ -3,7 +3,7 @@ ghost use Rattle.std.specs.Prelude.{[], ◌≡◌};
 ghost use Rattle.sheet_tables.specs.Heads.{blank};
 ghost use Rattle.sheet_tables.specs.Rules.{as_rules};
 
-#[derive(Drop)]
+#[derive(Clone, Copy)]
 pub struct Heads {
     pub model: name::Name,
     pub fields: usize,
@@ -20,7 +20,7 @@ pub struct Heads {
 }
 
 // What sets a rule off: nothing, an event, or a status that rises or falls; each by its place.
-#[derive(Drop)]
+#[derive(Clone, Copy)]
 pub enum Trigger {
     Always,
     Event(u8),
@@ -29,7 +29,7 @@ pub enum Trigger {
 }
 
 // A rule: whether it opens its status, and where the words of its condition begin and end; they are none where it has no condition.
-#[derive(Drop)]
+#[derive(Clone, Copy)]
 pub struct Rule {
     pub plus: bool,
     pub status: u8,
@@ -39,7 +39,7 @@ pub struct Rule {
 }
 
 // The rules in sheet order, and how many words and leaves their conditions have together.
-#[derive(Drop)]
+#[derive(Clone, Copy)]
 pub struct Rules {
     pub rows: [Rule; limits::RULES],
     pub count: usize,

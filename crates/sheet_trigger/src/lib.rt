@@ -13,14 +13,14 @@ use name::Known;
 use sheet_tables::Trigger;
 
 // A trigger, and how many bytes it took; or the refusal's number.
-#[derive(Drop)]
+#[derive(Clone, Copy)]
 enum TriggerRead {
     At(Trigger, usize),
     Refused(u8),
 }
 
 // How a rule's line begins: all before ` if `, whether ` on ` stands there, and how many bytes it took.
-#[derive(Drop)]
+#[derive(Clone, Copy)]
 pub struct Start {
     pub plus: bool,
     pub status: u8,
@@ -29,7 +29,7 @@ pub struct Start {
     pub bytes: usize,
 }
 
-#[derive(Drop)]
+#[derive(Clone, Copy)]
 pub enum StartRead {
     At(Start),
     Refused(u8),

@@ -6,7 +6,7 @@ ghost use Rattle.step_plan.specs.Plan.{as_plan};
 use graph_tests::{Test, Tests};
 
 // The tests in the order of the nodes, behind which of them each node's tests end, and the order itself: its first `nodes` nodes.
-#[derive(Drop)]
+#[derive(Clone, Copy)]
 pub struct Plan {
     pub rows: [Test; limits::TESTS],
     pub ends: [u8; limits::NODES],

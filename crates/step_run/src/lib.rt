@@ -8,7 +8,7 @@ use step_plan::Plan;
 use step_test::Moment;
 
 // The marks of the statuses after a step.
-#[derive(Drop)]
+#[derive(Clone, Copy)]
 pub struct After {
     pub marks: Marks,
 }

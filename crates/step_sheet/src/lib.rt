@@ -6,7 +6,7 @@ use sheet_tables::Heads;
 use step_plan::Plan;
 
 // The sheet; or a refusal's number, not 0, and its line.
-#[derive(Drop)]
+#[derive(Clone, Copy)]
 pub struct Accepted {
     pub number: u8,
     pub line: usize,

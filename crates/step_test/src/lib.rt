@@ -7,7 +7,7 @@ use marks::{Marks, Values};
 use sheet_tables::Trigger;
 
 // What a step starts from: the event, the coded values of the fields after it, and the marks of the statuses before it.
-#[derive(Drop)]
+#[derive(Clone, Copy)]
 pub struct Moment {
     pub event: usize,
     pub values: Values,

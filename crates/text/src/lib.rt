@@ -1,11 +1,13 @@
 // Fixed texts: whether one stands at a place, one that is due, and what is left of a paper from a place on.
+#![tactic(auto)]
+
 ghost use Rattle.std.specs.Prelude.{◌≡◌, drop};
 ghost use Rattle.meaning.specs.Text.{begins};
 ghost use Rattle.meaning.specs.Reading.{due};
 ghost use Rattle.text.specs.Answers.{as_bytes};
 
 // A piece whose text is known: how many bytes it took, or the refusal's number.
-#[derive(Drop)]
+#[derive(Clone, Copy)]
 pub enum Bytes {
     Read(usize),
     Refused(u8),

@@ -13,7 +13,7 @@ use step_sheet::Accepted;
 use step_test::Moment;
 
 // Between which places of the plan the rows of each node stand.
-#[derive(Drop)]
+#[derive(Clone, Copy)]
 struct Spans {
     from: [u8; limits::NODES],
     to: [u8; limits::NODES],
@@ -21,7 +21,7 @@ struct Spans {
 
 // What is told from, beside the rows: the marks before and after the step, between which places each node's rows stand, the codes of parents and homes, and
 // the line of the first status.
-#[derive(Drop)]
+#[derive(Clone, Copy)]
 struct Facts {
     before: Marks,
     after: Marks,
@@ -33,7 +33,7 @@ struct Facts {
 
 // A status: whether it changed, between which places the rows stand for the change that it could have made, and what is told where it changed and none of them
 // held, 0 for nothing.
-#[derive(Drop)]
+#[derive(Clone, Copy)]
 struct Status {
     changed: bool,
     from: usize,
