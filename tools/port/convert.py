@@ -93,6 +93,13 @@ def signature(block):
     return m.group(1), " ".join(m.group(2).split()), m.group(3), m.group(4).split(), m.group(5).strip("\n").rstrip()
 
 
+def steps(body, entry):
+    """The names of steps behind `c.` as they are today."""
+    new = {plain(p[2][0]): p[2][1] for p in entry["places"] if p[2][0]}
+    body = body.replace("c.before.requires", "c.requires")
+    return re.sub(r"\bc\.(%s)\b" % NAME, lambda m: "c." + new.get(plain(m.group(1)), m.group(1)), body)
+
+
 def turn(crate, folder, text, entry):
     path = f"crates/{crate}/proofs/{folder}"
     header, uses, blocks = parse(text)
@@ -132,7 +139,7 @@ def turn(crate, folder, text, entry):
         m = re.match(r"tie\.Need-(\S+)", kind)
         if m:
             old = plain(m.group(1))
-            new = needs.get(old) or needs.get(re.sub(r"^(overflow|nonzero)-", "", old))
+            new = needs.get(old) or needs.get(plain(name)) or needs.get(re.sub(r"^(overflow|nonzero)-", "", old))
             if not new:
                 left.append(block + "\n  -- no such goal")
                 continue
@@ -140,6 +147,7 @@ def turn(crate, folder, text, entry):
                 continue
             if new in entry.get("settled", []):
                 continue
+            body = steps(body, entry)
             args = " ".join(p for p in params if p != "κs")
             answers.append((new, f"pub {new} : goal.{new}\n" + (f"unfolding {unfolding}\n" if unfolding else "") + f"{new} {args} ={body}"))
             continue

@@ -1,6 +1,7 @@
 use borrow.Author.Rules.{rules}
 use Prim.Native.Nat.{◌-◌}
-use Rattle.name.proofs.Laws.{finding}
+use Rattle.std.proofs.Common.{refl}
+use Rattle.name.proofs.Laws.{find_here, finding}
 use Rattle.name.proofs.find.Goals as goal
 
 pub loop-i-init : goal.loop-i-init
@@ -19,7 +20,7 @@ pub overflow_sub-result : goal.overflow_sub-result
 overflow_sub-result c = search (rules, finding)
 
 pub returns-then-names-i-2 : goal.returns-then-names-i-2
-returns-then-names-i-2 c = search (rules, finding)
+returns-then-names-i-2 c = find_here _ _ _ _ _ c.loop-i.invariant.1 c.loop-i-test.true c.if-names-i.false c.if-names-i-2.true _ refl
 
 pub overflow_add-i : goal.overflow_add-i
 overflow_add-i c = search (rules, finding)

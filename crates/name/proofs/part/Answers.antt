@@ -12,5 +12,11 @@ offset_bounds-names-from c = let h = part_fits _ _ _ c.requires in search rules
 pub slice_bounds-result-count : goal.slice_bounds-result-count
 slice_bounds-result-count c = search (rules, tabling)
 
+pub slice_bounds-result-start : goal.slice_bounds-result-start
+slice_bounds-result-start c = search (rules, tabling)
+
+pub slice_bounds-result-end : goal.slice_bounds-result-end
+slice_bounds-result-end c = let h = part_fits _ _ _ c.requires in search rules
+
 pub returns : goal.returns
 returns c = search (rules, tabling)

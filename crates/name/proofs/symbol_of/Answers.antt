@@ -11,7 +11,7 @@ pub overflow_cast-result : goal.overflow_cast-result
 overflow_cast-result c = search (rules, symbol_from)
 
 pub returns-then-b-ge97 : goal.returns-then-b-ge97
-returns-then-b-ge97 c = symbol_high _ _ c.before.requires c.if1.true refl
+returns-then-b-ge97 c = symbol_high _ _ c.requires c.if-b-ge97.true refl
 
 pub overflow_sub-result-2 : goal.overflow_sub-result-2
 overflow_sub-result-2 c = search (rules, symbol_from)
@@ -20,4 +20,4 @@ pub overflow_cast-result-2 : goal.overflow_cast-result-2
 overflow_cast-result-2 c = search (rules, symbol_from)
 
 pub returns : goal.returns
-returns c = symbol_low _ _ c.before.requires c.if1.false refl
+returns c = symbol_low _ _ c.requires c.if-b-ge97.false refl

@@ -12,6 +12,12 @@ bounds-s-0 c = search (rules, placing)
 pub slice_bounds-digits_run-count : goal.slice_bounds-digits_run-count
 slice_bounds-digits_run-count c = search (rules, placing)
 
+pub slice_bounds-digits_run-start : goal.slice_bounds-digits_run-start
+slice_bounds-digits_run-start c = search (rules, placing)
+
+pub slice_bounds-digits_run-end : goal.slice_bounds-digits_run-end
+slice_bounds-digits_run-end c = search (rules, placing)
+
 pub digits_run-requires : goal.digits_run-requires
 digits_run-requires c = search (rules, placing)
 
