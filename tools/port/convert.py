@@ -128,6 +128,8 @@ def turn(crate, folder, text, entry):
             flags = changed[loop]
             places = [f"l.initial.{v}" if c else f"l.{v}" for v, c in zip(vs, flags)] + [f"l.{v}" for v, c in zip(vs, flags) if c]
             if len(places) != len(params):
+                params = [p for p in params if not re.fullmatch(r"t\d+", p)]
+            if len(places) != len(params):
                 left.append(block + f"\n  -- {len(places)} names: {places}, {len(params)} parameters")
                 continue
             names = {p: at for p, at in zip(params, places) if p != "_"}
@@ -143,7 +145,7 @@ def turn(crate, folder, text, entry):
             if not new:
                 left.append(block + "\n  -- no such goal")
                 continue
-            if body.strip() in ("search rules",):
+            if body.strip() == "search rules" and not unfolding:
                 continue
             if new in entry.get("settled", []):
                 continue

@@ -63,7 +63,7 @@ module _ (d : Name) (t : List ℕ) (p : Bytes) (name : p ≡ as_bytes t (due_nam
       key_room h = omega (arith, key_end.within)
 
       pub key_read : B.Read j ≡ as_bytes t (keyed d 0 t)
-      key_read = left_answer _ _ key_end j refl
+      key_read = left_answer (λ u n. B.Read n) B.Refused key_end j refl
 
 pub ruleset keying = (key_name, key_mark, key_room, key_read)
 
@@ -100,7 +100,7 @@ module _ (d : Name) (t : List ℕ) (p : Bytes) (key : p ≡ as_bytes t (due LINE
           case_room_2 s = omega (arith, case_end.within)
 
           pub case_read : B.Read h ≡ as_bytes t (case_line d 0 t)
-          case_read = left_answer _ _ case_end h refl
+          case_read = left_answer (λ u n. B.Read n) B.Refused case_end h refl
 
 pub ruleset casing = (case_key, case_name, case_room, case_unended, case_room_2, case_read)
 
@@ -220,7 +220,7 @@ module _ (d : Name) (t : List ℕ) (p : Bytes) (name : p ≡ as_bytes t (keyed d
           mark_read =
               let s = mark_next.same in
               let z : b ≡ mark_code mark_next.value = cc in
-              rw z (left_answer _ _ mark_end h refl)
+              rw z (left_answer (λ u n. M.Mark (mark_code u) n) M.Refused mark_end h refl)
 
 pub ruleset mark_lining = (mark_key, mark_word, mark_room, mark_unended, mark_room_2, mark_read)
 

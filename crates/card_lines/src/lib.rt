@@ -1,4 +1,6 @@
 // The pieces and lines of a card and an event line.
+#![tactic(auto)]
+
 ghost use Rattle.std.specs.Prelude.{◌≡◌, ◌+◌, length};
 ghost use Rattle.meaning.specs.Refusal.{LINE};
 ghost use Rattle.meaning.specs.Reading.{one_of, line_end};

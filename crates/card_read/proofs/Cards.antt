@@ -56,9 +56,9 @@ use Rattle.card_read.specs.Parts.{FieldsAs, MarksAs, behind_marks, behind_fields
 use Rattle.card_read.proofs.Marks.{marks_side}
 
 -- the table of names holds them all
-module _ {B : Type 0} (field : ℕ → B) (h : Heads) (sized : Sized h) (long : length (map field h.names) ≡ table_words) where
+module _ (h : Heads) (sized : Sized h) (long : length h.names ≡ table_words) where
   all_held : length (names_in h.names) ≡ name_room
-  all_held = table_length h.names (sym (length-map h.names field) ∙ long)
+  all_held = table_length h.names long
 
   pub fields_held : h.fields ≤ length (names_in h.names)
   fields_held = omega (arith, all_held, sized.few_fields)

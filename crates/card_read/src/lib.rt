@@ -1,4 +1,6 @@
 // Reading the card of a sheet.
+#![tactic(auto)]
+
 ghost use Rattle.std.specs.Prelude.{◌≡◌, ◌&&◌, ◌+◌, ◌≤◌, ◌<◌, length};
 ghost use Rattle.meaning.specs.Limits.{card_bytes, field_limit, status_limit};
 ghost use Rattle.meaning.specs.Reading.{answered};

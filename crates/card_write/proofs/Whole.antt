@@ -278,10 +278,7 @@ module _ (w : List ℕ) (n : ℕ) (is : n ≡ length w) (o : List ℕ) where
   room_fits g = omega arith
 
 -- the table of names and that of the marks as the code has them
-pub names_all : {B : Type 0} (field : ℕ → B) (h : Heads) → length (map field h.names) ≡ table_words → length (names_in h.names) ≡ name_room
-names_all field h long = table_length h.names (sym (length-map h.names field) ∙ long)
+pub names_all : (h : Heads) → length h.names ≡ table_words → length (names_in h.names) ≡ name_room
+names_all h long = table_length h.names long
 
-pub length_held : {B : Type 0} (f : ℕ → B) (xs : List ℕ) (n : ℕ) → length (map f xs) ≡ n → length xs ≡ n
-length_held f xs n e = sym (length-map xs f) ∙ e
-
-pub ruleset rooming = (names_all, length_held, room_none, room_kept, room_some, room_filled, room_fits)
+pub ruleset rooming = (names_all, room_none, room_kept, room_some, room_filled, room_fits)

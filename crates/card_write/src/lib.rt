@@ -1,4 +1,6 @@
 // Writing the next card into lent space.
+#![tactic(auto)]
+
 ghost use Rattle.std.specs.Prelude.{◌≡◌, ◌≤◌, ◌+◌, ◌*◌, length, take, get_or};
 ghost use Rattle.meaning.specs.Limits.{card_bytes, event_bytes, field_limit, status_limit};
 ghost use Rattle.limits.specs.Sizes.{name_room};

@@ -1,4 +1,6 @@
 // The steps along a condition: a leaf's word and the joining words in the lent array, what was read told from further back, a group's end.
+#![tactic(auto)]
+
 ghost use Rattle.std.specs.Prelude.{◌≡◌, ◌+◌, ◌≤◌, ◌<◌, length};
 ghost use Rattle.std.proofs.lemmas.List.Edits.{sets};
 ghost use Rattle.meaning.specs.ReadCondition.{read_leaf};

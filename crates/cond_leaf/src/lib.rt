@@ -1,4 +1,6 @@
 // Reading a leaf of a condition, a status or a comparison, into its word.
+#![tactic(auto)]
+
 ghost use Rattle.std.specs.Prelude.{◌≡◌, ◌≤◌, ◌<◌, length, drop};
 ghost use Rattle.std.proofs.Math.Option.{none};
 ghost use Rattle.meaning.specs.ReadCondition.{operator, named as namedLeaf, read_leaf};

@@ -1,4 +1,6 @@
 // Reading a condition into its flat form: words in postfix order in a lent array.
+#![tactic(auto)]
+
 ghost use Rattle.std.specs.Prelude.{◌≡◌, drop};
 ghost use Rattle.meaning.specs.Text.{text, begins};
 ghost use Rattle.meaning.specs.ReadCondition.{condition};
@@ -29,7 +31,7 @@ fn or_stands(s: &[u8], at: usize) -> bool
 }
 
 // A condition: and-lists joined by ` or `, behind each of which but the first an or is stored.
-#[cycle(and_list_condition_item)]
+#[cycle(readers)]
 fn condition(
     s: &[u8],
     statuses: &[u64],
@@ -69,7 +71,7 @@ fn condition(
 }
 
 // An and-list: items joined by ` and `, likewise.
-#[cycle(and_list_condition_item)]
+#[cycle(readers)]
 fn and_list(
     s: &[u8],
     statuses: &[u64],
@@ -109,7 +111,7 @@ fn and_list(
 }
 
 // An item: `not ` and an item, a group, or a leaf.
-#[cycle(and_list_condition_item)]
+#[cycle(readers)]
 fn item(
     s: &[u8],
     statuses: &[u64],

@@ -1,4 +1,6 @@
 // The lines that the desk program prints, put into lent space.
+#![tactic(auto)]
+
 ghost use Rattle.std.specs.Prelude.{◌≤◌, ◌+◌, length};
 ghost use Rattle.meaning.specs.Desk.{refusal_text};
 ghost use Rattle.name.specs.Names.{name_of};

@@ -91,16 +91,16 @@ pub record PutsAt (h : Heads) (s : List ℕ) (e p count at : ℕ) (fields values
   pub told : fields ≡ padded field_limit 0 (map field_of ps)
   pub laid : Laid (p + 1) (map (field_name h) (carried_by (heads_of h) e)) values starts lengths (map entry_of ps) (at + 1)
 
-pub puts_start : {B : Type 0} (field : ℕ → B) (h : Heads) (s : List ℕ) (e p count : ℕ) → Sized h → e < h.events → p ≤ length s
-    → length (map field h.carried) ≡ carried_room
+pub puts_start : (h : Heads) (s : List ℕ) (e p count : ℕ) → Sized h → e < h.events → p ≤ length s
+    → length h.carried ≡ carried_room
     → count ≡ get_or h.carries e 0 → PutsAt h s e p count p (replicate field_limit 0) (replicate field_limit 0) (replicate field_limit 0)
     (replicate field_limit 0) 0
 unfolding padded
-puts_start field h s e p count sized one l w z = record {
+puts_start h s e p count sized one l w z = record {
   sized = sized;
   one = one;
   counted = z;
-  whole = sym (length-map h.carried field) ∙ w;
+  whole = w;
   ps = [];
   part = part_start _ _ s 1 p l;
   told = refl;
@@ -208,9 +208,9 @@ pub ruleset putting = (puts_start, count_few, puts_done, carried_place, puts_bad
 abbrev event_table : Heads → List Name
 event_table h = take (h.fields + h.events - h.fields) (drop h.fields (names_in h.names))
 
-pub events_held : {B : Type 0} (field : ℕ → B) (h : Heads) → Sized h → length (map field h.names) ≡ table_words
+pub events_held : (h : Heads) → Sized h → length h.names ≡ table_words
     → h.fields + h.events ≤ length (names_in h.names)
-events_held field h sized long = omega (arith, table_length h.names (sym (length-map h.names field) ∙ long), sized.few_fields, sized.few_events)
+events_held h sized long = omega (arith, table_length h.names long, sized.few_fields, sized.few_events)
 
 pub events_room : (h : Heads) → Sized h → (j : ℕ) → j ≡ h.fields + h.events → Fits w64 j
 events_room h sized j z = omega (arith, sized.few_fields, sized.few_events)

@@ -1,4 +1,6 @@
 // Reading the event line of a sheet.
+#![tactic(auto)]
+
 ghost use Rattle.std.specs.Prelude.{◌≡◌, [], ◌+◌, ◌≤◌, ◌<◌, length, drop, get_or};
 ghost use Rattle.meaning.specs.Limits.{event_bytes};
 ghost use Rattle.meaning.specs.Reading.{answered};

@@ -263,9 +263,9 @@ pub record Adding (words : List ℕ) (rows : List Test) (count : ℕ) (was is : 
   pub added : Added (tests_into words (take i rows)) was is
 
 module _ (words : List ℕ) (rows : List Test) (count : ℕ) (was : List ℕ) where
-  pub adding_start : {B : Type 0} (f : Test → B) → length (map f rows) ≡ test_room → length was ≡ node_room → Adding words rows count was was 0
+  pub adding_start : length rows ≡ test_room → length was ≡ node_room → Adding words rows count was was 0
   unfolding tests_into rows_for joined keep
-  adding_start f h l = record { held = sym (length-map rows f) ∙ h; within = omega arith; added = added_none (tests_into words []) was l (λ k g. refl) }
+  adding_start h l = record { held = h; within = omega arith; added = added_none (tests_into words []) was l (λ k g. refl) }
 
   module _ (is : List ℕ) (i : ℕ) (s : Adding words rows count was is i) where
     pub adding_long : length is ≡ node_room
@@ -341,10 +341,10 @@ pub record Lining (words : List ℕ) (rows : List Test) (count p k i : ℕ) : Ty
   pub same : line_from words (take count rows) p k ≡ line_from words (take (count - i) (drop i rows)) p k
 
 module _ (words : List ℕ) (rows : List Test) (count p k : ℕ) where
-  pub lining_start : {B : Type 0} (f : Test → B) → length (map f rows) ≡ test_room → Lining words rows count p k 0
-  lining_start f h =
+  pub lining_start : length rows ≡ test_room → Lining words rows count p k 0
+  lining_start h =
       let z : count ≡ count - 0 = omega arith in
-      record { held = sym (length-map rows f) ∙ h; within = omega arith; same = ap (λ m. line_from words (take m rows) p k) z }
+      record { held = h; within = omega arith; same = ap (λ m. line_from words (take m rows) p k) z }
 
   module _ (i : ℕ) (s : Lining words rows count p k i) where
     pub lining_out : i < count → test_room ≤ i → 0 ≡ line_from words (take count rows) p k

@@ -1,5 +1,7 @@
 // The dependency graph of some tests: their testing order, a circle, and the line of an edge.
 // The graph is a mask for each node: bit p of mask k is the edge from node p to node k.
+#![tactic(auto)]
+
 ghost use Rattle.std.specs.Prelude.{◌≡◌, cond, ◌&&◌, [], ◌∷◌, ◌-◌, ◌*◌, ◌≤◌, ◌<◌, eqb, length, take, drop};
 ghost use Rattle.meaning.specs.Text.{is_in, joined};
 ghost use Rattle.meaning.specs.Graph.{order_for};

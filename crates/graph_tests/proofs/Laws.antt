@@ -60,13 +60,13 @@ pub record Ruling (under : List ℕ) (line : ℕ) (rules : Rules) (count : ℕ) 
   pub same : sets (replicate test_room no_test) 0 (rule_rows under line (take count rules.rows))
       ≡ sets rows i (rule_rows under (line + i) (drop i (take count rules.rows)))
 
-pub ruling_start : {B : Type 0} (f : Rule → B) (under : List ℕ) (line : ℕ) (rules : Rules) (count : ℕ) (t : Test) → length (map f rules.rows) ≡ rule_limit
+pub ruling_start : (under : List ℕ) (line : ℕ) (rules : Rules) (count : ℕ) (t : Test) → length rules.rows ≡ rule_limit
     → count ≡ min rules.count rule_limit → t ≡ no_test
     → Ruling under line rules count (replicate test_room t) 0
-ruling_start f under line rules count t h e n = rw n (record {
+ruling_start under line rules count t h e n = rw n (record {
   within = omega arith;
   low = e;
-  long = sym (length-map rules.rows f) ∙ h;
+  long = h;
   same = ap (λ l. sets (replicate test_room no_test) 0 (rule_rows under l (take count rules.rows))) (sym (add-zero line));
 })
 
@@ -211,19 +211,19 @@ pub ruleset shutting = (closing_start, closing_stage, closing_none, closing_room
 
 -- ALL TESTS
 
-pub rules_few : {B : Type 0} (f : Rule → B) (rules : Rules) (under : List ℕ) (line : ℕ) (t : Tests) → length (map f rules.rows) ≡ rule_limit
+pub rules_few : (rules : Rules) (under : List ℕ) (line : ℕ) (t : Tests) → length rules.rows ≡ rule_limit
     → t ≡ as_tests (rule_rows under line (take rules.count rules.rows)) → t.count ≤ rule_limit
 unfolding as_tests
-rules_few f rules under line t h e =
+rules_few rules under line t h e =
     let rs = take rules.count rules.rows in
-    omega (arith, ap (λ (t : Tests). t.count) e, rows_count under line rs, length-take rules.count rules.rows, length-map rules.rows f)
+    omega (arith, ap (λ (t : Tests). t.count) e, rows_count under line rs, length-take rules.count rules.rows)
 
-pub all_tests : {B : Type 0} (f : Rule → B) (rules : Rules) (under : List ℕ) (stages line : ℕ) (t r : Tests) → length (map f rules.rows) ≡ rule_limit
+pub all_tests : (rules : Rules) (under : List ℕ) (stages line : ℕ) (t r : Tests) → length rules.rows ≡ rule_limit
     → length under ≡ status_limit
     → t ≡ as_tests (rule_rows under line (take rules.count rules.rows)) → r ≡ behind t (closing_rows 0 (take stages under))
     → r ≡ tests_of rules under stages line
 unfolding tests_of as_tests
-all_tests f rules under stages line t r h l e is =
+all_tests rules under stages line t r h l e is =
     let rs = take rules.count rules.rows in
     let xs = rule_rows under line rs in
     let ys = closing_rows 0 (take stages under) in
@@ -232,7 +232,6 @@ all_tests f rules under stages line t r h l e is =
       arith,
       rows_count under line rs,
       length-take rules.count rules.rows,
-      length-map rules.rows f,
       closings_few 0 (take stages under),
       length-take stages under,
     ) in

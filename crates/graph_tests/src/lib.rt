@@ -1,4 +1,6 @@
 // The rules of a sheet as they are tested: one row for each, and behind them one for each child stage, which closes with its parent.
+#![tactic(auto)]
+
 ghost use Rattle.std.specs.Prelude.{[], ◌≡◌, ◌≤◌, ◌<◌, take};
 ghost use Rattle.meaning.specs.Limits.{rule_limit, status_limit};
 ghost use Rattle.graph_tests.specs.Table.{no_test, rule_test, closes, rule_rows, closing_rows, as_tests, behind, first_line, tests_of, Ready};

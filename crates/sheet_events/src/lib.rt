@@ -1,4 +1,6 @@
 // The event lines of a sheet.
+#![tactic(auto)]
+
 ghost use Rattle.std.specs.Prelude.{◌≡◌, leb, take, drop};
 ghost use Rattle.meaning.specs.Text.{text, begins, is_in};
 ghost use Rattle.meaning.specs.Limits.{event_limit};

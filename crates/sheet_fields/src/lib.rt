@@ -1,4 +1,6 @@
 // What a sheet begins with: the model and the fields.
+#![tactic(auto)]
+
 ghost use Rattle.std.specs.Prelude.{◌≡◌};
 ghost use Rattle.meaning.specs.Reading.{after};
 ghost use Rattle.meaning.specs.ReadSheet.{model_line, field_lines};

@@ -1,4 +1,6 @@
 // All that stands above the rules of a sheet: its sections, one after the other, each from where those before it were read to.
+#![tactic(auto)]
+
 ghost use Rattle.std.specs.Prelude.{◌≡◌};
 ghost use Rattle.meaning.specs.ReadSheet.{heads};
 ghost use Rattle.sheet_section.specs.Answers.{as_heads_read};

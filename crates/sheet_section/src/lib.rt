@@ -1,4 +1,6 @@
 // A section of a sheet above its rules, whatever its rows are: what is answered, and the key and the name that a row begins with.
+#![tactic(auto)]
+
 ghost use Rattle.std.specs.Prelude.{◌≡◌, [], ◌∷◌, take, drop};
 ghost use Rattle.meaning.specs.Text.{begins};
 ghost use Rattle.name.specs.Names.{names_in};

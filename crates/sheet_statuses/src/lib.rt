@@ -1,4 +1,6 @@
 // The stage lines and the mile lines of a sheet, which are read alike.
+#![tactic(auto)]
+
 ghost use Rattle.std.specs.Prelude.{◌≡◌, cond, ◌-◌, take, drop};
 ghost use Rattle.meaning.specs.Text.{text, begins};
 ghost use Rattle.meaning.specs.Reading.{after};

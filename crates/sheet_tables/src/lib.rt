@@ -1,4 +1,6 @@
 // A sheet as tables: what it says above its rules, names as they are kept and everything else by its place, and its rules.
+#![tactic(auto)]
+
 ghost use Rattle.std.specs.Prelude.{[], ◌≡◌};
 ghost use Rattle.sheet_tables.specs.Heads.{blank};
 ghost use Rattle.sheet_tables.specs.Rules.{as_rules};

@@ -1,4 +1,6 @@
 // How a rule's line begins: its sign and status, and the trigger behind ` on `, if one stands there.
+#![tactic(auto)]
+
 ghost use Rattle.std.specs.Prelude.{◌≡◌, ◌||◌, ◌≤◌, length, drop};
 ghost use Rattle.meaning.specs.Text.{text, begins};
 ghost use Rattle.meaning.specs.Limits.{status_limit};

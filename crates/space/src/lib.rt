@@ -1,4 +1,6 @@
 // Texts, numbers and lines put into lent space, and how long they are.
+#![tactic(auto)]
+
 ghost use Rattle.std.specs.Prelude.{◌≡◌, [], ◌∷◌, ◌++◌, ◌≤◌, ◌<◌, ◌+◌, length};
 ghost use Rattle.meaning.specs.Text.{text};
 ghost use Rattle.meaning.specs.Number.{decimal, written_in};

@@ -208,11 +208,11 @@ module _ (tests : Tests) (order : List ℕ) (nodes last top : ℕ) where
     pub node : i < top
     pub going : Planning All Nodes (then All rows count k j) (set ends i (then All rows count k j).count) (suc i)
 
-  pub nodes_start : {B : Type 0} (f : Test → B) → length (map f tests.rows) ≡ test_room → length order ≡ node_room → last ≡ min tests.count test_room
+  pub nodes_start : length tests.rows ≡ test_room → length order ≡ node_room → last ≡ min tests.count test_room
       → top ≡ min nodes node_room → (t : Test) → t ≡ no_test
       → AtNode (replicate test_room t) (replicate node_room 0) 0 0
-  nodes_start f h l e g t n = rw n (record {
-    sized = record { low = e; few = g; long = sym (length-map tests.rows f) ∙ h; full = l };
+  nodes_start h l e g t n = rw n (record {
+    sized = record { low = e; few = g; long = h; full = l };
     going = record {
       within = omega arith;
       counted = omega arith;

@@ -1,4 +1,6 @@
 // The tests listed by a testing order, so that a step is one pass over them.
+#![tactic(auto)]
+
 ghost use Rattle.std.specs.Prelude.{◌≡◌, ◌&&◌, eqb, ltb, take};
 ghost use Rattle.limits.specs.Sizes.{test_room};
 ghost use Rattle.step_plan.specs.Plan.{as_plan};

@@ -124,11 +124,11 @@ module _ (ws : List ℕ) (m : Moment) (p : Plan) (nodes : ℕ) where
     pub begun : end ≡ start_of p i
     pub same : run_over ws m p ≡ run_from ws m p i (drop i Nodes) (set_mark (met || left ws m p after end j) k after)
 
-  pub run_start : {B : Type 0} (f : Test → B) → length (map f p.rows) ≡ test_room → length p.order ≡ node_room → nodes ≡ min p.nodes node_room
+  pub run_start : length p.rows ≡ test_room → length p.order ≡ node_room → nodes ≡ min p.nodes node_room
       → Running m.before 0 0
   unfolding run_over
-  run_start f h l e =
-      let s : Sized p nodes = record { low = e; full = l; long = sym (length-map p.rows f) ∙ h } in
+  run_start h l e =
+      let s : Sized p nodes = record { low = e; full = l; long = h } in
       record {
         sized = s;
         begun = refl;

@@ -1,4 +1,6 @@
 // One test on a card: its trigger, its home and its condition, on the marks of the statuses before and after.
+#![tactic(auto)]
+
 ghost use Rattle.std.specs.Prelude.{◌≡◌};
 ghost use Rattle.step_test.specs.Met.{moment_at, rose_in, fell_in, trigger_met, home_met, condition_value, condition_met, test_met, stop_number};
 

@@ -136,9 +136,9 @@ module _ (words : List ℕ) (m : Moment) (after : List ℕ) (all : List Test) wh
     pub low : Low rows
     pub same : sets (replicate test_room 0) 0 (map tells all) ≡ sets rows j (map tells (drop j all))
 
-  pub tell_start : {B : Type 0} (f : Test → B) → length (map f all) ≡ test_room → Telling (replicate test_room 0) 0
-  tell_start f h = record {
-    long = sym (length-map all f) ∙ h;
+  pub tell_start : length all ≡ test_room → Telling (replicate test_room 0) 0
+  tell_start h = record {
+    long = h;
     full = refl;
     low = zeros_low test_room;
     same = refl;

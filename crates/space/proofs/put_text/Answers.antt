@@ -1,0 +1,28 @@
+use borrow.Author.Rules.{rules}
+use Prim.Native.Nat.{◌-◌}
+use Rattle.space.proofs.Laws.{texting}
+use Rattle.space.proofs.put_text.Goals as goal
+
+pub loop-i-init : goal.loop-i-init
+loop-i-init c = search (rules, texting)
+
+pub bounds-w-i : goal.bounds-w-i
+bounds-w-i c = search (rules, texting)
+
+pub put_byte-to-requires : goal.put_byte-to-requires
+put_byte-to-requires c = search (rules, texting)
+
+pub overflow_add-i : goal.overflow_add-i
+overflow_add-i c = search (rules, texting)
+
+pub loop-i-smaller : goal.loop-i-smaller
+loop-i-smaller c = search (rules, texting)
+
+pub loop-i-preserved : goal.loop-i-preserved
+loop-i-preserved c = search (rules, texting)
+
+pub shape_of-out : goal.shape_of-out
+shape_of-out c = search (rules, texting)
+
+pub returns : goal.returns
+returns c = search (rules, texting)
