@@ -1,4 +1,6 @@
 // A sheet that is accepted: its tables, and its tests listed by its testing order. Made once for a sheet, it serves every card and event line.
+#![tactic(auto)]
+
 ghost use Rattle.std.specs.Prelude.{◌≡◌};
 ghost use Rattle.meaning.specs.Doors.{read_sheet};
 ghost use Rattle.step_sheet.specs.Answers.{as_accepted};

@@ -1,4 +1,6 @@
 // The outlook in names, put into lent space: for each status whether it is yes in every pattern, in none or in some, then a line for each pattern.
+#![tactic(auto)]
+
 ghost use Rattle.std.specs.Prelude.{◌≡◌, false, ◌≤◌, ◌+◌, length};
 ghost use Rattle.meaning.specs.Limits.{status_limit};
 ghost use Rattle.meaning.specs.Text.{joined};

@@ -1,4 +1,6 @@
 // The lines that tell reasons, put into lent space. A reason is one number, (status x 1000 + line) x 10 + kind.
+#![tactic(auto)]
+
 ghost use Rattle.std.specs.Prelude.{◌≡◌, ◌++◌, ◌≤◌, ◌<◌, ◌+◌, ◌*◌, length};
 ghost use Rattle.meaning.specs.Text.{joined};
 ghost use Rattle.meaning.specs.Clerk.{kind_words, parent_told};

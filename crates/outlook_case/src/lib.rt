@@ -1,4 +1,6 @@
 // The outlook of a case that was read: the patterns of all choices, ascending, each once.
+#![tactic(auto)]
+
 ghost use Rattle.std.specs.Prelude.{◌≡◌, ◌≤◌, length};
 ghost use Rattle.meaning.specs.Limits.{field_limit};
 ghost use Rattle.limits.specs.Sizes.{node_room};

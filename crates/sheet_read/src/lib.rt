@@ -1,4 +1,6 @@
 // Reading a whole sheet: its length, what stands above the rules, and the rules. Whether its graph has a cycle is told by the crate above.
+#![tactic(auto)]
+
 ghost use Rattle.std.specs.Prelude.{◌≡◌, replicate};
 ghost use Rattle.meaning.specs.Limits.{sheet_bytes};
 ghost use Rattle.meaning.specs.Reading.{paper};

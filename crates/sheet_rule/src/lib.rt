@@ -1,4 +1,6 @@
 // Reading one rule's line: sign, status, trigger and condition.
+#![tactic(auto)]
+
 ghost use Rattle.std.specs.Prelude.{◌≡◌};
 ghost use Rattle.meaning.specs.ReadSheet.{plain_end, asked_end, ending, rule};
 ghost use Rattle.name.specs.Names.{names_in};

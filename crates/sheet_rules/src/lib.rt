@@ -1,4 +1,6 @@
 // Reading the rules of a sheet, line after line, and the last line `end=`.
+#![tactic(auto)]
+
 ghost use Rattle.std.specs.Prelude.{◌≡◌, [], ◌+◌, take, drop};
 ghost use Rattle.meaning.specs.Text.{text, begins};
 ghost use Rattle.meaning.specs.Limits.{rule_limit};

@@ -1,4 +1,6 @@
 // What goes with a step: the moment of a card and an event line, the tasks started, and statuses as a pattern.
+#![tactic(auto)]
+
 ghost use Rattle.std.specs.Prelude.{◌≡◌, ◌≤◌, cond, take, set, replicate};
 ghost use Rattle.meaning.specs.Step.{pattern};
 ghost use Rattle.meaning.specs.Limits.{status_limit};

@@ -1,4 +1,6 @@
 // One step: the statuses after it, node after node of the testing order.
+#![tactic(auto)]
+
 ghost use Rattle.std.specs.Prelude.{◌≡◌, true, not, ◌&&◌, min, ltb};
 ghost use Rattle.limits.specs.Sizes.{test_room};
 ghost use Rattle.step_run.specs.Run.{may_change, set_mark, run_over};

@@ -1,4 +1,6 @@
 // A sheet that is accepted, as the step, the outlook and the reasons take it: its tables, and its tests listed by its testing order.
+#![tactic(auto)]
+
 ghost use Rattle.std.specs.Prelude.{◌≡◌};
 ghost use Rattle.step_sheet.specs.Answers.{refused_sheet};
 

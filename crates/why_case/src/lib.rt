@@ -1,4 +1,6 @@
 // Why each status of a case that was read changed, or did not: its reasons, ascending.
+#![tactic(auto)]
+
 ghost use Rattle.std.specs.Prelude.{◌≡◌, map, ◌+◌, ◌≤◌, ◌<◌, length};
 ghost use Rattle.meaning.specs.Limits.{status_limit};
 ghost use Rattle.limits.specs.Sizes.{node_room, test_room};

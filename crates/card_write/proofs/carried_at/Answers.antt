@@ -1,6 +1,7 @@
 use borrow.Author.Rules.{rules}
 use Prim.Native.Nat.{◌-◌}
-use Rattle.card_write.proofs.Rows.{carrying}
+use Rattle.std.proofs.Common.{refl}
+use Rattle.card_write.proofs.Rows.{carrying, carried_more}
 use Rattle.card_write.proofs.carried_at.Goals as goal
 
 pub loop-i-init : goal.loop-i-init
@@ -25,7 +26,8 @@ pub loop-i-smaller : goal.loop-i-smaller
 loop-i-smaller c = search (rules, carrying)
 
 pub loop-i-preserved : goal.loop-i-preserved
-loop-i-preserved c = search (rules, carrying)
+loop-i-preserved c =
+    carried_more _ _ _ _ c.loop-i.invariant c.loop-i-test.true c.if-fields-i.false _ c.place.ensures c.if-place-f.false _ refl
 
 pub returns : goal.returns
 returns c = search (rules, carrying)

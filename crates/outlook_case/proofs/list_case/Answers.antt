@@ -1,0 +1,28 @@
+-- The values to be tried, then the patterns of all choices; nothing where they are too many.
+use borrow.Author.Rules.{rules}
+use Rattle.outlook_case.proofs.Laws.{list_many, list_untouched, list_all, list_space_lem, filling}
+use Rattle.outlook_case.proofs.list_case.Goals as goal
+
+pub slice_bounds-fill-end-3 : goal.slice_bounds-fill-end-3
+slice_bounds-fill-end-3 c = search (rules, filling)
+
+pub slice_bounds-fill-end-4 : goal.slice_bounds-fill-end-4
+slice_bounds-fill-end-4 c = search (rules, filling)
+
+pub fill-count-requires : goal.fill-count-requires
+fill-count-requires c = search (rules, filling)
+
+pub returns-then-count-eq0 : goal.returns-then-count-eq0
+returns-then-count-eq0 c = (search (rules, list_many), search (rules, list_untouched))
+
+pub slice_bounds-collect-end-2 : goal.slice_bounds-collect-end-2
+slice_bounds-collect-end-2 c = search (rules, filling)
+
+pub slice_bounds-collect-end-3 : goal.slice_bounds-collect-end-3
+slice_bounds-collect-end-3 c = search (rules, filling)
+
+pub collect-n-requires : goal.collect-n-requires
+collect-n-requires c = search (rules, filling)
+
+pub returns : goal.returns
+returns c = (search (rules, list_all), search (rules, list_space_lem))

@@ -1,0 +1,16 @@
+-- `sheet_read::read_sheet` answers what the meaning reads: LONG, then what stands above the rules, then the rules; the first fault decides.
+use borrow.Author.Rules.{rules}
+use Rattle.sheet_read.proofs.Whole.{reading}
+use Rattle.sheet_read.proofs.read_sheet.Goals as goal
+
+pub returns-then-s-gt-SHEET_BYTES : goal.returns-then-s-gt-SHEET_BYTES
+returns-then-s-gt-SHEET_BYTES c = search (rules, reading)
+
+pub returns-then-h-ne0 : goal.returns-then-h-ne0
+returns-then-h-ne0 c = search (rules, reading)
+
+pub read_below-requires : goal.read_below-requires
+read_below-requires c = search (rules, reading)
+
+pub returns : goal.returns
+returns c = search (rules, reading)
