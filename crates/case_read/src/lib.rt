@@ -1,4 +1,6 @@
 // The three papers of a case, read: sheet, then card, then event line. The first refusal decides.
+#![tactic(auto)]
+
 ghost use Rattle.std.specs.Prelude.{◌≡◌};
 ghost use Rattle.meaning.specs.Doors.{read_case};
 ghost use Rattle.case_read.specs.Answers.{refused_case, as_case};

@@ -1,4 +1,6 @@
 // What is told of a sheet alone, put into lent space: its counts, and a line for each edge of a circle.
+#![tactic(auto)]
+
 ghost use Rattle.std.specs.Prelude.{◌≡◌, cond, ◌≤◌, ◌<◌, ◌+◌, ltb, length, take};
 ghost use Rattle.meaning.specs.Text.{text};
 ghost use Rattle.meaning.specs.Write.{line};

@@ -1,4 +1,6 @@
 // The step of a case that was read: the marks after it, the tasks started, and the next card in lent space.
+#![tactic(auto)]
+
 ghost use Rattle.std.specs.Prelude.{◌≡◌, ◌≤◌, length};
 ghost use Rattle.meaning.specs.Limits.{event_bytes, card_bytes};
 ghost use Rattle.sheet_tables.specs.Heads.{Sized};

@@ -13,7 +13,7 @@ pub fill-count-requires : goal.fill-count-requires
 fill-count-requires c = search (rules, filling)
 
 pub returns-then-count-eq0 : goal.returns-then-count-eq0
-returns-then-count-eq0 c = (search (rules, list_many), search (rules, list_untouched))
+returns-then-count-eq0 c = record { answer = search (rules, list_many); space = search (rules, list_untouched) }
 
 pub slice_bounds-collect-end-2 : goal.slice_bounds-collect-end-2
 slice_bounds-collect-end-2 c = search (rules, filling)
@@ -25,4 +25,4 @@ pub collect-n-requires : goal.collect-n-requires
 collect-n-requires c = search (rules, filling)
 
 pub returns : goal.returns
-returns c = (search (rules, list_all), search (rules, list_space_lem))
+returns c = record { answer = search (rules, list_all); space = search (rules, list_space_lem) }
