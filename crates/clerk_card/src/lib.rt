@@ -1,4 +1,6 @@
 // What the clerk's program prints with the word `card` for the whole of its input, put into lent space.
+#![tactic(auto)]
+
 ghost use Rattle.std.specs.Prelude.{◌≤◌, length};
 ghost use Rattle.meaning.specs.Doors.{read_case};
 ghost use Rattle.meaning.specs.Clerk.{card_printed, card_output};

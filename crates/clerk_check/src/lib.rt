@@ -1,5 +1,7 @@
 // What the clerk's program prints for a sheet alone, put into lent space.
 // With the word `check` it is what the sheet holds or where its circle is, with `blank` its card before anything was asked.
+#![tactic(auto)]
+
 ghost use Rattle.std.specs.Prelude.{◌≤◌, length};
 ghost use Rattle.meaning.specs.Clerk.{check_output, blank_card, blank_output};
 ghost use Rattle.sheet_tables.specs.Heads.{Sized, heads_of};

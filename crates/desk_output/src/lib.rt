@@ -1,4 +1,6 @@
 // The desk program's output: what it prints for the whole of its input, put into lent space.
+#![tactic(auto)]
+
 ghost use Rattle.std.specs.Prelude.{◌≤◌, ◌+◌, length};
 ghost use Rattle.meaning.specs.Text.{joined};
 ghost use Rattle.meaning.specs.Doors.{read_case};

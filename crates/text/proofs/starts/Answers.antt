@@ -1,5 +1,4 @@
 use borrow.Author.Rules.{rules}
-use Prim.Native.Nat.{◌-◌}
 use Rattle.text.proofs.Laws.{beginning}
 use Rattle.text.proofs.starts.Goals as goal
 

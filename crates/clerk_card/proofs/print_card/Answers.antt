@@ -1,0 +1,30 @@
+-- A refusal of the papers, or the next card.
+use borrow.Author.Rules.{rules}
+use Rattle.meaning.specs.Clerk.{card_printed}
+use Rattle.case_read.proofs.Callers.{taking, printed_refused}
+use Rattle.desk_rooms.specs.Rooms.{card_room}
+use Rattle.desk_rooms.proofs.Callers.{refusal_room}
+use Rattle.clerk_card.proofs.Laws.{of_case, casing}
+use Rattle.clerk_card.proofs.print_card.Goals as goal
+
+pub read_case-case-requires : goal.read_case-case-requires
+read_case-case-requires c = search (rules, taking, casing)
+
+pub put_refusal-requires : goal.put_refusal-requires
+put_refusal-requires c = search (rules, refusal_room card_room tt)
+
+pub shape_of-out-then-case-ne0 : goal.shape_of-out-then-case-ne0
+shape_of-out-then-case-ne0 c = search (rules, taking, casing)
+
+pub returns-then-case-ne0 : goal.returns-then-case-ne0
+unfolding card_printed
+returns-then-case-ne0 c = search (rules, printed_refused of_case)
+
+pub step_case-reply-requires : goal.step_case-reply-requires
+step_case-reply-requires c = search (rules, taking, casing)
+
+pub shape_of-out : goal.shape_of-out
+shape_of-out c = search (rules, taking, casing)
+
+pub returns : goal.returns
+returns c = search (rules, taking, casing)
