@@ -59,8 +59,9 @@ readable() {
 
 # THE PROGRAM
 
+# What changed since. Edits that must fail and what rt keeps beside the code are no part of it.
 newer() {
-    find "$here/crates.txt" "$here/crates" -path '*/must-fail' -prune -o -type f -newer "$program" -print
+    find "$here/crates.txt" "$here/crates" \( -path '*/must-fail' -o -path '*/out' \) -prune -o -type f -newer "$program" -print
 }
 
 # All that rt says goes to standard output, and its own lines that have news to standard error too. Ends with the status in the line
@@ -73,40 +74,44 @@ progress() {
         *) printf '%s\n' "$said" ;;
         esac
         case $said in
-        *': its dependency '* | *'(unchanged since'*) ;;
+        'rt: nothing has changed'* | 'rt: running '* | *': begins with what a check kept in '*) ;;
         rt:*) printf '%s\n' "$said" >&2 ;;
         esac
     done
     return "$ended"
 }
 
-# What the checker said of the first crate that is not proved, whole: behind it in the log is only what depends on it. Where there is none, all that rt said.
+# What the checker said of the first crate that is not proved, without what it says of every crate. Where there is none, all that was said behind the last one that is.
 first_failure() {
     awk '
+        /^logic=not-proved/ { exit }
+        /^logic=proved/ { text = ""; next }
+        /^(logic|statements|library|crate|axioms|rt: running) / || /^only=/ || /^[a-z]+ [^ ]*::.*: proved$/ { next }
         { text = text $0 "\n" }
-        /^rt: .* NOT PROVED/ { exit }
-        /^rt: [^ ]+ proved \(/ { text = "" }
         END { printf "%s", text }' "$1" | tail -n 40
 }
 
-# prove WORD..: rt with these words. What it and the checker say is kept in a log; where that is a failure, it is shown.
+# prove CRATE WORD: rt with this word, in the crate's folder. What it and the checker say is kept in a log; where that is a failure, it is shown.
 prove() {
     log=$here/target/$name.log
     command -v rt >/dev/null || stop "there is no 'rt' on the PATH: the Rattle toolchain is needed to prove and build"
     (mkdir -p "$here/target" && : >"$log") || stop "cannot write $log"
-    if ! { (cd "$here" && rt "$@") </dev/null 2>&1 || printf '\nrt failed %s\n' "$?"; } | progress >"$log"; then
-        say "'rt $*' failed. What the checker said:"
+    if ! { (cd "$here/crates/$1" && rt "$2") </dev/null 2>&1 || printf '\nrt failed %s\n' "$?"; } | progress >"$log"; then
+        say "'rt $2' in crates/$1 failed. What the checker said:"
         first_failure "$log" >&2
         stop "all of it is in $log"
     fi
 }
 
-# Where the program is not built yet or something has changed, it is proved and built first.
+# Where the program is not built yet or something has changed, it is proved and built first: rt builds it beside its code and runs it once, on nothing.
+# The copy gets its name when it is whole.
 build() {
     if [ ! -x "$program" ] || [ -n "$(newer)" ]; then
         say 'proving and building the program; from nothing this takes some minutes'
-        prove check "$name"
-        [ -x "$program" ] || stop "'rt check $name' made no $program"
+        built=$here/crates/$name/out/$name
+        prove "$name" run
+        [ -x "$built" ] || stop "'rt run' made no $built"
+        (mkdir -p "$here/target/bin" && cp -- "$built" "$program.new" && mv -- "$program.new" "$program") || stop "cannot write $program"
         touch -- "$program"
     fi
 }
@@ -116,8 +121,8 @@ find_tools() {
     tools=
     machine=$(uname -m)
     [ "$machine" != x86_64 ] || return 0
-    guide=$(cd "$here" && rt doc) || stop "the program is x86-64 code, and there is no 'rt' that would know an emulator for $machine"
-    tools=${guide%/docs/*}/on/$machine/toolchain
+    guide=$(rt doc) || stop "the program is x86-64 code, and there is no 'rt' that would know an emulator for $machine"
+    tools=${guide%/*}/on/$machine/toolchain
     [ -x "$tools/bin/qemu-x86_64" ] || stop "the program is x86-64 code, and the kit has no emulator for $machine, $tools/bin/qemu-x86_64"
 }
 

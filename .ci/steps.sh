@@ -44,19 +44,35 @@ cargo_tests() {
 
 # rt ci counts by itself; its last line is not shown, so that the gate's own is the last. Nothing proved is a failure.
 proofs() {
-    local said status last
+    local said status last fine
     said=$(mktemp) || exit
     rt ci | tee "$said" | sed '$d'
     status=${PIPESTATUS[0]}
     last=$(tail -n 1 "$said")
+    fine=$(grep '^rt: ok\b' "$said" | tail -n 1)
     rm -f "$said"
     if [[ $last =~ ^([0-9]+)\ passed,\ ([0-9]+)\ failed$ ]]; then
         passed=$((passed + BASH_REMATCH[1]))
         failed=$((failed + BASH_REMATCH[2]))
-        ((BASH_REMATCH[1] > 0 && (status == 0 || BASH_REMATCH[2] > 0))) && return
+        if ((BASH_REMATCH[1] > 0 && (status == 0 || BASH_REMATCH[2] > 0))); then
+            ((BASH_REMATCH[2] > 0)) || edits "$fine"
+            return
+        fi
     fi
     failed=$((failed + 1))
     echo "FAILED: rt ci ended with status $status and '$last'"
+}
+
+# edits LINE: rt ci passes where must-fail edits could not be tried, and counts them in its line `rt: ok` alone. Here each is
+# a failure, and so is a line that counts no edit.
+edits() {
+    if [[ ! $1 =~ \;\ must-fail\ edits:\ ([1-9][0-9]*)\ refused(, [0-9]+ of them only by a limit)?(, ([0-9]+) bad)?\; ]]; then
+        failed=$((failed + 1))
+        echo "FAILED: rt ci tells no edits that it refused: '$1'"
+    elif ((BASH_REMATCH[4] > 0)); then
+        failed=$((failed + BASH_REMATCH[4]))
+        echo "FAILED: must-fail edits that could not be tried: ${BASH_REMATCH[4]}"
+    fi
 }
 
 # The archive has x86-64 code. On another processor target/bridge has one with the same functions in its place, which
@@ -89,7 +105,6 @@ compare() {
 # What needs no proof and no archive. The programs are not built yet: the commands are tried with stand-ins.
 before_proofs() {
     local programs=second/target/release
-    step 'layout of crates/' rt fmt --check
     step 'the papers that are made' tools/papers --check
     step "the papers' own check" tests/papers
     step 'layout of rust/' within rust cargo fmt --check
@@ -106,7 +121,7 @@ before_proofs() {
     step 'the gate itself' tests/gate
 }
 
-# What needs the archive or the programs, which rt ci has just made anew.
+# What needs the archive or the programs.
 behind_proofs() {
     step 'the archive' ./archive
     [[ $(uname -m) == x86_64 ]] || step 'the bridge to the archive' bridge

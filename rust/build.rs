@@ -1,4 +1,5 @@
-//! Links the library's archive, found in `../target/staticlib` or where `REAMBODKIN_LIB` points, or says what is missing.
+//! Links the library's archive, found in `../target/staticlib` (or in `../crates/exports/out`, where the toolchain makes it, if it
+//! is newer there) or where `REAMBODKIN_LIB` points, or says what is missing.
 
 use std::{
     env, fs,
@@ -19,32 +20,44 @@ fn main() {
     // The library's code is for x86-64; on another processor a folder must be named that has its functions.
     let other_processor = env::var("CARGO_CFG_TARGET_ARCH").as_deref() != Ok("x86_64");
     let foreign = other_processor && given.is_none();
-    let folder = given.unwrap_or_else(staticlib);
-    for name in [NAMED, COPIED] {
-        println!("cargo::rerun-if-changed={}", file(&folder, name).display());
+    let toolchains = given.is_none().then(|| project("crates/exports/out"));
+    let folder = given.unwrap_or_else(|| project("target/staticlib"));
+    let places = places(&folder, toolchains);
+    for (folder, name) in &places {
+        println!("cargo::rerun-if-changed={}", file(folder, name).display());
     }
-    match newest(&folder).ok_or("is missing").and_then(|name| if foreign { Err("has x86-64 code") } else { Ok(name) }) {
+    match newest(&places).ok_or("is missing").and_then(|it| if foreign { Err("has x86-64 code") } else { Ok(it) }) {
         Err(what) => println!("cargo::error={} {what}; {}", file(&folder, NAMED).display(), way(other_processor)),
-        Ok(name) => {
+        Ok((folder, name)) => {
             println!("cargo::rustc-link-search=native={}", folder.display());
             println!("cargo::rustc-link-lib=static:-bundle={name}");
         }
     }
 }
 
-fn staticlib() -> PathBuf {
+/// A folder of the project.
+fn project(name: &str) -> PathBuf {
     let here = PathBuf::from(env::var_os("CARGO_MANIFEST_DIR").expect("cargo names the package's folder"));
-    here.parent().unwrap_or(&here).join("target/staticlib")
+    here.parent().unwrap_or(&here).join(name)
 }
 
-/// The archive that is linked: by the project's name, or the one that the toolchain writes and that it is copied from,
-/// where only that one is there or it was made again.
-fn newest(folder: &Path) -> Option<&'static str> {
-    match (made(folder, NAMED), made(folder, COPIED)) {
-        (None, None) => None,
-        (named, copied) if named < copied => Some(COPIED),
-        _ => Some(NAMED),
+/// Where an archive may be: by the project's name, or by that of the toolchain, from whose it is copied.
+fn places(folder: &Path, toolchains: Option<PathBuf>) -> Vec<(PathBuf, &'static str)> {
+    let mut places = vec![(folder.to_path_buf(), NAMED), (folder.to_path_buf(), COPIED)];
+    places.extend(toolchains.map(|folder| (folder, COPIED)));
+    places
+}
+
+/// The archive that is linked: the one by the project's name, or another, where only that one is there or it was made again.
+fn newest(places: &[(PathBuf, &'static str)]) -> Option<(PathBuf, &'static str)> {
+    let mut found = None;
+    for (folder, name) in places {
+        let time = made(folder, name);
+        if time > found.as_ref().and_then(|(time, _)| *time) {
+            found = Some((time, (folder.clone(), *name)));
+        }
     }
+    found.map(|(_, place)| place)
 }
 
 fn file(folder: &Path, name: &str) -> PathBuf {

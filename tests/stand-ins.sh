@@ -3,7 +3,11 @@
 
 # make_project FOLDER PROGRAMS: FOLDER/project and FOLDER/bin, which belongs in front of the PATH; the stand-ins `desk` and `clerk` are in PROGRAMS.
 make_project() {
-    mkdir -p "$1/project/crates" "$1/bin" "$1/programs"
+    for crate in desk clerk exports; do
+        mkdir -p "$1/project/crates/$crate/src" "$1/project/crates/$crate/must-fail"
+        echo '// The code.' >"$1/project/crates/$crate/src/main.rt"
+    done
+    mkdir -p "$1/bin" "$1/programs"
     (cd "$tests/.." && cp -R desk clerk archive programs.sh crates.txt examples "$1/project/") || exit 2
     cp "$2/desk" "$2/clerk" "$1/programs/" || exit 2
     cp "$tests/rt" "$1/bin/rt"

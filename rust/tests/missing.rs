@@ -98,6 +98,49 @@ fn the_archive_as_the_toolchain_names_it_is_enough() {
     assert_eq!(linked(&folder), "exports");
 }
 
+/// A project with this package alone, built with no folder named.
+#[cfg(target_arch = "x86_64")]
+fn linked_in_project(project: &Path) -> String {
+    let here = Path::new(env!("CARGO_MANIFEST_DIR"));
+    let rust = project.join("rust");
+    fs::create_dir_all(rust.join("src")).expect("a folder");
+    for name in ["Cargo.toml", "Cargo.lock", "build.rs", "README.md"] {
+        fs::copy(here.join(name), rust.join(name)).expect("a copy");
+    }
+    fs::create_dir_all(rust.join("tests")).expect("a folder");
+    fs::write(rust.join("tests/parcel.rs"), "").expect("the test that the manifest names");
+    for entry in fs::read_dir(here.join("src")).expect("the sources") {
+        let path = entry.expect("a source").path();
+        fs::copy(&path, rust.join("src").join(path.file_name().expect("its name"))).expect("a copy");
+    }
+    let mut cargo = cargo_build(project);
+    cargo.current_dir(&rust).env_remove("REAMBODKIN_LIB").arg("--message-format=json");
+    let output = cargo.output().expect("cargo runs");
+    assert!(output.status.success(), "{}", String::from_utf8_lossy(&output.stderr));
+    let messages = String::from_utf8_lossy(&output.stdout).replace('\\', "/");
+    let (_, paths) = messages.split_once("native=").expect("a folder is searched");
+    let folder = project.display().to_string();
+    paths.trim_start_matches(&folder).chars().take_while(|letter| *letter != '"').collect()
+}
+
+/// Where the toolchain has made the archive again beside its code, that one is linked.
+#[cfg(target_arch = "x86_64")]
+#[test]
+fn the_toolchains_own_archive_is_linked_where_it_is_newer() {
+    let project = folder("project");
+    let (made, copied) = (project.join("crates/exports/out"), project.join("target/staticlib"));
+    for folder in [&made, &copied] {
+        fs::create_dir_all(folder).expect("a folder");
+    }
+    put(&made, COPIED, 30);
+    assert_eq!(linked_in_project(&project), "/crates/exports/out");
+    put(&copied, COPIED, 20);
+    put(&copied, ARCHIVE, 20);
+    assert_eq!(linked_in_project(&project), "/target/staticlib");
+    put(&made, COPIED, 10);
+    assert_eq!(linked_in_project(&project), "/crates/exports/out");
+}
+
 /// The project's own archive has code for another processor.
 #[cfg(not(target_arch = "x86_64"))]
 #[test]
