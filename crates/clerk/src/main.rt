@@ -1,92 +1,93 @@
 // The clerk's program: its first word names a request. It reads its papers from standard input, as the desk program does, or a sheet alone, and prints what the
 // request tells.
-use libc::{STDIN_FILENO, STDOUT_FILENO};
+#![tactic(auto)]
+
+use std::alloc::{AllocError, Global};
+use std::env::Env;
+use std::io::Read;
 
 // Prints why each status changed, or did not. A closed output does no harm.
-fn tell_why(input: &[u8]) {
-    let mut out = [0u8; desk_rooms::WHY];
+fn tell_why(rt: &(impl Print + AllocGlobal), input: &[u8]) -> Result<(), AllocError> {
+    let mut out = vec![in rt.alloc(); 0u8; desk_rooms::WHY]?;
     let n = clerk_why::why_output(input, &mut out);
-    io::write_all(STDOUT_FILENO, &out[..n]);
+    let _ = rt.write_all(&out[..n]);
+    Ok(())
 }
 
 // Prints the next card.
-fn tell_card(input: &[u8]) {
-    let mut out = [0u8; desk_rooms::CARD];
+fn tell_card(rt: &(impl Print + AllocGlobal), input: &[u8]) -> Result<(), AllocError> {
+    let mut out = vec![in rt.alloc(); 0u8; desk_rooms::CARD]?;
     let n = clerk_card::card_output(input, &mut out);
-    io::write_all(STDOUT_FILENO, &out[..n]);
+    let _ = rt.write_all(&out[..n]);
+    Ok(())
 }
 
-// Prints what may still come, in names, by way of this space.
-fn tell_names(input: &[u8], out: &mut [u8; desk_rooms::NAMED]) {
-    let n = clerk_outlook::outlook_output(input, out);
-    let all = &out[..];
-    io::write_all(STDOUT_FILENO, &all[..n]);
-}
-
-// The same. The large array stands here, so that the other words do not need its stack.
-fn tell_outlook(input: &[u8]) {
-    let mut out = [0u8; desk_rooms::NAMED];
-    tell_names(input, &mut out);
+// Prints what may still come, in names.
+fn tell_outlook(rt: &(impl Print + AllocGlobal), input: &[u8]) -> Result<(), AllocError> {
+    let mut out = vec![in rt.alloc(); 0u8; desk_rooms::NAMED]?;
+    let n = clerk_outlook::outlook_output(input, &mut out);
+    let _ = rt.write_all(&out[..n]);
+    Ok(())
 }
 
 // Prints what a sheet holds, or where its circle is.
-fn tell_check(input: &[u8]) {
-    let mut out = [0u8; desk_rooms::CHECK];
+fn tell_check(rt: &(impl Print + AllocGlobal), input: &[u8]) -> Result<(), AllocError> {
+    let mut out = vec![in rt.alloc(); 0u8; desk_rooms::CHECK]?;
     let n = clerk_check::check_output(input, &mut out);
-    io::write_all(STDOUT_FILENO, &out[..n]);
+    let _ = rt.write_all(&out[..n]);
+    Ok(())
 }
 
 // Prints a sheet's card with nothing known yet.
-fn tell_blank(input: &[u8]) {
-    let mut out = [0u8; desk_rooms::CARD];
+fn tell_blank(rt: &(impl Print + AllocGlobal), input: &[u8]) -> Result<(), AllocError> {
+    let mut out = vec![in rt.alloc(); 0u8; desk_rooms::CARD]?;
     let n = clerk_check::blank_output(input, &mut out);
-    io::write_all(STDOUT_FILENO, &out[..n]);
+    let _ = rt.write_all(&out[..n]);
+    Ok(())
+}
+
+// The whole input, or its first `most` bytes. A read that fails ends it. There is room for more before the first one, so that none fails for
+// want of memory.
+fn read_up_to(alloc: Global, reader: impl Read + Drop, most: usize) -> Result<Vec<u8>, AllocError> {
+    let mut input = Vec::with_capacity(alloc, most.saturating_add(1))?;
+    let _ = reader.take(most as u64).read_to_end(&mut input);
+    Ok(input)
 }
 
 // The requests for three papers. One byte more than is taken is read, so that a longer input is told as LONG.
-fn why() {
-    let mut input = [0u8; limits::DESK_BYTES + 1];
-    let n = io::read_full(STDIN_FILENO, &mut input);
-    tell_why(&input[..n]);
+fn why(rt: &(impl Input + Print + AllocGlobal)) -> Result<(), AllocError> {
+    let input = read_up_to(rt.alloc(), rt.reader(), limits::DESK_BYTES + 1)?;
+    tell_why(rt, &input)
 }
 
-fn card() {
-    let mut input = [0u8; limits::DESK_BYTES + 1];
-    let n = io::read_full(STDIN_FILENO, &mut input);
-    tell_card(&input[..n]);
+fn card(rt: &(impl Input + Print + AllocGlobal)) -> Result<(), AllocError> {
+    let input = read_up_to(rt.alloc(), rt.reader(), limits::DESK_BYTES + 1)?;
+    tell_card(rt, &input)
 }
 
-fn outlook() {
-    let mut input = [0u8; limits::DESK_BYTES + 1];
-    let n = io::read_full(STDIN_FILENO, &mut input);
-    tell_outlook(&input[..n]);
+fn outlook(rt: &(impl Input + Print + AllocGlobal)) -> Result<(), AllocError> {
+    let input = read_up_to(rt.alloc(), rt.reader(), limits::DESK_BYTES + 1)?;
+    tell_outlook(rt, &input)
 }
 
 // Those for a sheet alone, likewise.
-fn check() {
-    let mut input = [0u8; limits::SHEET_BYTES + 1];
-    let n = io::read_full(STDIN_FILENO, &mut input);
-    tell_check(&input[..n]);
+fn check(rt: &(impl Input + Print + AllocGlobal)) -> Result<(), AllocError> {
+    let input = read_up_to(rt.alloc(), rt.reader(), limits::SHEET_BYTES + 1)?;
+    tell_check(rt, &input)
 }
 
-fn blank() {
-    let mut input = [0u8; limits::SHEET_BYTES + 1];
-    let n = io::read_full(STDIN_FILENO, &mut input);
-    tell_blank(&input[..n]);
+fn blank(rt: &(impl Input + Print + AllocGlobal)) -> Result<(), AllocError> {
+    let input = read_up_to(rt.alloc(), rt.reader(), limits::SHEET_BYTES + 1)?;
+    tell_blank(rt, &input)
 }
 
 // What there is, a line for each word.
-fn words() {
-    io::write_all(
-        STDOUT_FILENO,
+fn words(rt: &impl Print) {
+    let _ = rt.write_all(
         b"clerk why: for each status why it changed, or what stopped each rule\nclerk card: the next card alone\n",
     );
-    io::write_all(
-        STDOUT_FILENO,
-        b"clerk outlook: what may still come, in names\n",
-    );
-    io::write_all(
-        STDOUT_FILENO,
+    let _ = rt.write_all(b"clerk outlook: what may still come, in names\n");
+    let _ = rt.write_all(
         b"clerk check: whether a sheet is taken, or where its circle is\nclerk blank: a sheet's card with nothing known yet\n",
     );
 }
@@ -97,32 +98,29 @@ fn is(word: &[u8], k: &[u8]) -> bool {
 }
 
 // The request with a word; where there is none, nothing is read.
-fn request(word: &[u8]) {
+fn request(rt: &(impl Input + Print + AllocGlobal), word: &[u8]) -> Result<(), AllocError> {
     if is(word, b"why") {
-        why();
-        return;
+        return why(rt);
     }
     if is(word, b"card") {
-        card();
-        return;
+        return card(rt);
     }
     if is(word, b"outlook") {
-        outlook();
-        return;
+        return outlook(rt);
     }
     if is(word, b"check") {
-        check();
-        return;
+        return check(rt);
     }
     if is(word, b"blank") {
-        blank();
-        return;
+        return blank(rt);
     }
-    words();
+    words(rt);
+    Ok(())
 }
 
-fn main() {
-    let mut word = io::buffer();
-    let n = os::arg(1, &mut word);
-    request(&word[..n]);
+// A word that is missing, or longer than any that there is, is told as none.
+fn main(rt: HostRuntime) -> Result<(), AllocError> {
+    let mut word = [0u8; 16];
+    let n = rt.arg(1, &mut word).unwrap_or(0);
+    request(&rt, &word[..n])
 }

@@ -1,16 +1,27 @@
 // The desk program: reads sheet, card and event line from standard input, and prints what comes of them.
-use libc::{STDIN_FILENO, STDOUT_FILENO};
+#![tactic(auto)]
+
+use std::alloc::{AllocError, Global};
+use std::io::Read;
 
 // Prints what comes of the whole input. A closed output does no harm.
-fn answer(input: &[u8]) {
-    let mut out = [0u8; desk_rooms::DESK];
+fn answer(rt: &(impl Print + AllocGlobal), input: &[u8]) -> Result<(), AllocError> {
+    let mut out = vec![in rt.alloc(); 0u8; desk_rooms::DESK]?;
     let n = desk_output::desk_output(input, &mut out);
-    io::write_all(STDOUT_FILENO, &out[..n]);
+    let _ = rt.write_all(&out[..n]);
+    Ok(())
+}
+
+// The whole input, or its first `most` bytes. A read that fails ends it. There is room for more before the first one, so that none fails for
+// want of memory.
+fn read_up_to(alloc: Global, reader: impl Read + Drop, most: usize) -> Result<Vec<u8>, AllocError> {
+    let mut input = Vec::with_capacity(alloc, most.saturating_add(1))?;
+    let _ = reader.take(most as u64).read_to_end(&mut input);
+    Ok(input)
 }
 
 // One byte more than is taken is read, so that a longer input is told as LONG.
-fn main() {
-    let mut input = [0u8; limits::DESK_BYTES + 1];
-    let n = io::read_full(STDIN_FILENO, &mut input);
-    answer(&input[..n]);
+fn main(rt: HostRuntime) -> Result<(), AllocError> {
+    let input = read_up_to(rt.alloc(), rt.reader(), limits::DESK_BYTES + 1)?;
+    answer(&rt, &input)
 }

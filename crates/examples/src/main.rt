@@ -1,40 +1,44 @@
 // Runs what the desk program runs over every file that the arguments name, and prints the file's name and what comes of it.
-use libc::STDOUT_FILENO;
+#![tactic(auto)]
+
+use std::alloc::{AllocError, Global};
+use std::io::Read;
+use std::rt::Files;
+use std::{env, fs, io};
 
 // Prints what comes of the whole input.
-fn answer(input: &[u8]) {
-    let mut out = [0u8; desk_rooms::DESK];
+fn answer(rt: &(impl Print + AllocGlobal), input: &[u8]) -> Result<(), AllocError> {
+    let mut out = vec![in rt.alloc(); 0u8; desk_rooms::DESK]?;
     let n = desk_output::desk_output(input, &mut out);
-    io::write_all(STDOUT_FILENO, &out[..n]);
+    let _ = rt.write_all(&out[..n]);
+    Ok(())
 }
 
-// A file by its name.
-fn file(path: &[u8]) {
-    let fd = os::open_read(path);
-    if fd < 0 {
-        os::fail(path);
-        return;
+// The whole file, or its first `most` bytes. A read that fails ends it. There is room for more before the first one, so that none fails for
+// want of memory.
+fn read_up_to(alloc: Global, reader: impl Read + Drop, most: usize) -> Result<Vec<u8>, AllocError> {
+    let mut input = Vec::with_capacity(alloc, most.saturating_add(1))?;
+    let _ = reader.take(most as u64).read_to_end(&mut input);
+    Ok(input)
+}
+
+// A file by its name. One that can't be opened is told on standard error.
+fn file(rt: &(impl Files + Print + Eprint + AllocGlobal), path: &str) -> Result<(), AllocError> {
+    let opened = match fs::open(rt, path) {
+        Ok(opened) => opened,
+        Err(error) => {
+            let _ = eprintln!(rt; "{path}: {error}");
+            return Ok(());
+        }
+    };
+    let input = read_up_to(rt.alloc(), opened, limits::DESK_BYTES + 1)?;
+    let _ = rt.println(path);
+    answer(rt, &input)
+}
+
+fn main(rt: HostRuntime) -> io::Result<()> {
+    for path in env::args(&rt)?.skip(1) {
+        file(&rt, &path)?;
     }
-    let mut input = [0u8; limits::DESK_BYTES + 1];
-    let n = io::read_full(fd, &mut input);
-    libc::close(fd);
-    io::write_all(STDOUT_FILENO, path);
-    io::write_all(STDOUT_FILENO, b"\n");
-    answer(&input[..n]);
-}
-
-// The file that argument i names.
-fn named(i: usize) {
-    let mut path = io::buffer();
-    let length = os::arg(i, &mut path);
-    file(&path[..length]);
-}
-
-fn main() {
-    let count = os::arg_count();
-    let mut i = 1;
-    while i < count {
-        named(i);
-        i += 1;
-    }
+    Ok(())
 }
