@@ -1,4 +1,6 @@
 // The doors for other languages. A slice is a pointer and a length; the reply's numbers go into lent places.
+#![tactic(auto)]
+
 ghost use Rattle.std.specs.Prelude.{◌≡◌, ◌++◌, ◌≤◌, length, drop};
 ghost use Rattle.meaning.specs.Doors.{step_reply, step_space, outlook_reply, outlook_space, why_reply, why_space};
 ghost use Rattle.meaning.specs.Desk.{desk_output};

@@ -1,4 +1,6 @@
 // The doors: what callers outside may ask for a case, on the bytes of its three papers and the space that they lend.
+#![tactic(auto)]
+
 ghost use Rattle.std.specs.Prelude.{◌≡◌, length};
 ghost use Rattle.meaning.specs.Doors.{step_reply, step_space, outlook_reply, outlook_space, why_reply, why_space};
 ghost use Rattle.reply.specs.Answers.{as_reply};

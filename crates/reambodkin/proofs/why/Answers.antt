@@ -1,0 +1,26 @@
+-- Why: a refusal of the papers, or the reasons of the case that was read.
+use borrow.Author.Rules.{rules}
+use Rattle.case_read.proofs.Callers.{taking}
+use Rattle.reambodkin.proofs.Laws.{telling}
+use Rattle.reambodkin.proofs.why.Goals as goal
+
+pub read_case-case-requires : goal.read_case-case-requires
+read_case-case-requires c = search (rules, taking, telling)
+
+pub refusal-requires : goal.refusal-requires
+refusal-requires c = search (rules, taking, telling)
+
+pub returns-then-case-ne0 : goal.returns-then-case-ne0
+returns-then-case-ne0 c = search (rules, taking, telling)
+
+pub moment_of-moment-requires : goal.moment_of-moment-requires
+moment_of-moment-requires c = search (rules, taking, telling)
+
+pub why_case-requires : goal.why_case-requires
+why_case-requires c = search (rules, taking, telling)
+
+pub shape_of-out : goal.shape_of-out
+shape_of-out c = search (rules, taking, telling)
+
+pub returns : goal.returns
+returns c = search (rules, taking, telling)
