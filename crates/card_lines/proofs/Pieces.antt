@@ -254,7 +254,13 @@ module _ (d : Name) (t : List ℕ) (p : Bytes) (space : p ≡ as_bytes t (due LI
     module _ (v n k : ℕ) (f : q ≡ VP.Value v n k) (j : ℕ) (sum : j ≡ o + n) where
       pub put_room : length t < 2 ^ 64 → Fits w64 j
       put_room h =
-          omega (arith, put_mid_lem.0, (value_took (length d + 1) 0 (field_ends d u) q value v n k (n + k) f (omega arith)).within, ap length rest, length-drop o t)
+          omega (
+            arith,
+            put_mid_lem.0,
+            (value_took (length d + 1) 0 (field_ends d u) q value v n k (n + k) f (omega arith)).within,
+            ap length rest,
+            length-drop o t,
+          )
 
       pub put_read : VP.Value v j k ≡ as_value (length d + 2) (spaced d 0 t)
       put_read = rw sum (rw f at put_then)

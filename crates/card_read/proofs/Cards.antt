@@ -6,7 +6,7 @@ use mathlib.Core.List.{List, map}
 use mathlib.Core.Option.{Option, none, some}
 use native.Mathlib.Omega.{arith}
 use borrow.Author.Tests.{le-leb, lt-leb}
-use lib.ListN.{length, take, drop, length-drop, length-map}
+use lib.ListN.{length, take, drop, length-drop}
 use lib.Seq.{length-take-le}
 use mir.Val.{Fits}
 use mir.Syntax.{w64}
@@ -28,9 +28,7 @@ use Rattle.theory.specs.Reading.BuiltPapers.{card_built}
 use Rattle.text.specs.declared.Bytes.{Bytes}
 use Rattle.text.specs.declared.Bytes.TheVariants as B
 use Rattle.text.specs.Answers.{as_bytes}
-use Rattle.limits.specs.Sizes.{name_room}
-use Rattle.name.specs.Names.{name_of, names_in, table_words}
-use Rattle.name.proofs.Tables.{table_length}
+use Rattle.name.specs.Names.{name_of, names_in}
 use Rattle.number.specs.declared.End.{End}
 use Rattle.number.specs.declared.End.TheVariants as D
 use Rattle.number.specs.Answers.{as_end}
@@ -38,7 +36,7 @@ use Rattle.number.proofs.Callers.{end_got, end_wrong, end_next}
 use Rattle.sheet_tables.specs.declared.Heads.{Heads}
 use Rattle.theory.specs.Lists.Padded.{padded}
 use Rattle.sheet_tables.specs.Heads.{Sized, names_at, heads_of}
-use Rattle.sheet_tables.proofs.Names.{fields_are, statuses_are, stages_length}
+use Rattle.sheet_tables.proofs.Names.{fields_are, statuses_are, stages_length, fields_held, statuses_held}
 use Rattle.case_tables.specs.declared.Card.{Card}
 use Rattle.case_tables.specs.Cards.{as_card}
 use Rattle.marks.specs.Codes.{mark_code, side_of}
@@ -54,17 +52,6 @@ use Rattle.card_read.specs.declared.Orphan.TheVariants as O
 use Rattle.card_read.specs.Answers.{as_card_read}
 use Rattle.card_read.specs.Parts.{FieldsAs, MarksAs, behind_marks, behind_fields, Entered, FieldsOf, card_of, Carded, MarksOf, as_orphan, Judged, refused_card, taken_card}
 use Rattle.card_read.proofs.Marks.{marks_side}
-
--- the table of names holds them all
-module _ (h : Heads) (sized : Sized h) (long : length h.names ≡ table_words) where
-  all_held : length (names_in h.names) ≡ name_room
-  all_held = table_length h.names long
-
-  pub fields_held : h.fields ≤ length (names_in h.names)
-  fields_held = omega (arith, all_held, sized.few_fields)
-
-  pub statuses_held : h.fields + h.events + (h.stages + h.miles) ≤ length (names_in h.names)
-  statuses_held = omega (arith, all_held, sized.few_fields, sized.few_events, sized.few_statuses)
 
 -- THE FIRST LINE AND THE FIELDS
 module _ (h : Heads) (s : List ℕ) (k : Bytes) (case : k ≡ as_bytes s (case_line (name_of h.model) 0 s)) where
@@ -232,11 +219,13 @@ card_short : (hd : S.Heads) (s : List ℕ) → length s ≤ card_bytes
 unfolding read_card paper
 card_short hd s h = rw (le-leb (length s) card_bytes h)
 
-pub paper_long : (h : Heads) (s : List ℕ) (r : CardRead) → card_bytes < length s → r ≡ refused_card LONG 0 → r ≡ as_card_read (heads_of h) (read_card (heads_of h) s)
+pub paper_long : (h : Heads) (s : List ℕ) (r : CardRead) → card_bytes < length s → r ≡ refused_card LONG 0
+    → r ≡ as_card_read (heads_of h) (read_card (heads_of h) s)
 unfolding read_card paper
 paper_long h s r l e = e ∙ rw (lt-leb (length s) card_bytes l)
 
-module _ (h : Heads) (s : List ℕ) (short : length s ≤ card_bytes) (r : CardRead) (lines : r ≡ as_card_read (heads_of h) (answered 2 (card (heads_of h) 1 s))) where
+module _ (h : Heads) (s : List ℕ) (short : length s ≤ card_bytes) (r : CardRead)
+    (lines : r ≡ as_card_read (heads_of h) (answered 2 (card (heads_of h) 1 s))) where
   pub paper_refused : (r.number ≡ 0 → ⊥) → r ≡ as_card_read (heads_of h) (read_card (heads_of h) s)
   paper_refused n =
       let wrong = told_refused (as_card_read (heads_of h)) (λ r. r.number) (λ r. r.line) (λ c. refl) (λ n p l. (refl, refl))

@@ -42,7 +42,8 @@ abbrev pub behind_marks : M.Card → Reader M.Card
 behind_marks c l s = after (end_line (length c.entries + length c.statuses) l s) (λ _. give c)
 
 abbrev pub behind_fields : S.Heads → List Entry → Reader M.Card
-behind_fields hd es l s = after (each (λ n. ended (status_mark n)) (status_names (statuses hd)) l s) (λ ss. behind_marks (record { entries = es; statuses = ss }))
+behind_fields hd es l s = after (each (λ n. ended (status_mark n)) (status_names (statuses hd)) l s)
+    (λ ss. behind_marks (record { entries = es; statuses = ss }))
 
 -- the tables hold an entry for each field of the sheet, from the card's second line on
 pub record Entered (h : Heads) (r : FieldsRead) (es : List Entry) : Type 0 where

@@ -107,7 +107,8 @@ module _ (t : ℕ → List ℕ) (names : List ℕ) where
   unfolding lines_from
   rows_over i h = rw (drop_of_length-le (names_in names) h)
 
-  rows_step : (i : ℕ) (w : Kept) (v : List ℕ) → i < length (names_in names) → w ≡ name_at names i → v ≡ t i → rows_from i ≡ line (name_of w) v ++ rows_from (i + 1)
+  rows_step : (i : ℕ) (w : Kept) (v : List ℕ) → i < length (names_in names) → w ≡ name_at names i → v ≡ t i
+      → rows_from i ≡ line (name_of w) v ++ rows_from (i + 1)
   unfolding lines_from
   rows_step i w v h e q = rw (add-one, drop-cons (names_in names) i [] h, e, name_at_lem names i, q)
 

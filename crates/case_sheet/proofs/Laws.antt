@@ -99,7 +99,8 @@ module _ (s : List ℕ) (r : SheetRead) (told : r ≡ as_sheet_read (paper 1 she
   unfolding read_sheet
   accept_refused z q f = go (paper 1 sheet_bytes sheet s) refl
     where
-      go : (x : Answer M.Sheet) → paper 1 sheet_bytes sheet s ≡ x → q ≡ as_accepted (on_taken (paper 1 sheet_bytes sheet s) (λ sh. accepted sh (testing_order sh)))
+      go : (x : Answer M.Sheet) → paper 1 sheet_bytes sheet s ≡ x → q ≡ as_accepted
+          (on_taken (paper 1 sheet_bytes sheet s) (λ sh. accepted sh (testing_order sh)))
       go (taken sh) e = absurd (z (ap (λ (r : SheetRead). r.number) (told ∙ ap as_sheet_read e)))
       go (refused n p l) e = f ∙ ap (λ (r : SheetRead). refused_sheet r.number r.line) (told ∙ ap as_sheet_read e) ∙ sym (rw e)
 

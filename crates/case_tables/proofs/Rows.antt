@@ -46,7 +46,8 @@ place_more : (e : Entry) (p : ℕ) (ns : List Name) (es : List Entry) → length
 unfolding value_places next_place
 place_more e p [] es h q z = absurd (omega arith)
 place_more e p (n ∷ ns) [] h q z = (rw z (ap (λ r. (p + length n + 1) ∷ r) (places_none _ ns)), rw z, refl)
-place_more e p (n ∷ ns) (x ∷ es) h q z = let (a, b, c) = place_more e (p + length n + 1 + length x.shown + 1) ns es (omega arith) q z in (ap (λ r. (p + length n + 1) ∷ r) a, b, ap suc c)
+place_more e p (n ∷ ns) (x ∷ es) h q z = let (a, b, c) = place_more e (p + length n + 1 + length x.shown + 1) ns es (omega arith) q z in
+    (ap (λ r. (p + length n + 1) ∷ r) a, b, ap suc c)
 
 -- the tables hold these entries, and the next name stands at `at`
 pub record Laid (p : ℕ) (ns : List Name) (values starts lengths : List ℕ) (es : List Entry) (at : ℕ) : Type 0 where

@@ -4,4 +4,9 @@ use Rattle.meaning.specs.Limits.{field_limit, status_limit}
 use Rattle.case_tables.specs.declared.Card.{Card}
 
 abbrev pub unasked_card : Card
-unasked_card = record { values = replicate field_limit 0; starts = replicate field_limit 0; lengths = replicate field_limit 1; marks = replicate status_limit 0 }
+unasked_card = record {
+  values = replicate field_limit 0;
+  starts = replicate field_limit 0;
+  lengths = replicate field_limit 1;
+  marks = replicate status_limit 0;
+}

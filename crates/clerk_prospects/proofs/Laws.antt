@@ -18,10 +18,9 @@ use Rattle.meaning.specs.Refusal.{taken}
 use Rattle.meaning.specs.Prospect.{always, never, still_open, yes_in, prospect, yes_names}
 use Rattle.meaning.specs.Write.{line}
 use Rattle.meaning.specs.Clerk.{prospect_word, prospect_lines, spaced, pattern_line, prospects_told}
-use Rattle.limits.specs.Sizes.{name_room}
 use Rattle.name.specs.declared.Name.{Name as Kept}
 use Rattle.name.specs.Names.{name_of, names_in, name_at, table_words, part_of}
-use Rattle.name.proofs.Tables.{name_at_lem, table_length, part_names, part_length}
+use Rattle.name.proofs.Tables.{name_at_lem, part_names, part_length}
 use Rattle.sheet_tables.specs.declared.Heads.{Heads}
 use Rattle.sheet_tables.specs.Heads.{names_at, Sized}
 use Rattle.theory.specs.Writing.Lent.{Wrote, Left, left_start, left_end, left_room, left_more, wrote_none, first_room, second_room, both_written}
@@ -138,7 +137,8 @@ module _ (t : List ℕ) (a₀ s₀ : ℕ) (o₀ : List ℕ) where
         pub words_more : (o1 : List ℕ) (b : ℕ) → Wrote at (word_line (name_of w) all some) o o1 b → (a s j : ℕ) → a ≡ all / 2 → s ≡ some / 2 → j ≡ i + 1
             → Left 0 (word_lines (names_in t) a₀ s₀) o₀ b (word_lines (drop j (names_in t)) a s) o1
         words_more o1 b v a s j p q r =
-            rw (p, q, r) (left_more 0 words_of_all o₀ at (word_lines (drop i (names_in t)) all some) o l (word_line (name_of w) all some) after next_words o1 b v)
+            rw (p, q, r) (left_more 0 words_of_all o₀ at (word_lines (drop i (names_in t)) all some) o l
+            (word_line (name_of w) all some) after next_words o1 b v)
 
 pub ruleset words = (words_start, words_long, words_end, words_room, words_more)
 
@@ -222,7 +222,8 @@ module _ (at₀ : ℕ) (t : List ℕ) (p₀ : ℕ) (o₀ : List ℕ) where
         pub names_more : (o1 : List ℕ) (b : ℕ) → Wrote at (name_text behind (name_of w) p) o o1 b → (q j : ℕ) → q ≡ p / 2 → j ≡ i + 1
             → Left at₀ (names_text false (names_in t) p₀) o₀ b (names_text (behind || eqb (p % 2) 1) (drop j (names_in t)) q) o1
         names_more o1 b v q j e f =
-            rw (e, f) (left_more at₀ all_names_lem o₀ at (names_text behind (drop i (names_in t)) p) o l (name_text behind (name_of w) p) rest next_names o1 b v)
+            rw (e, f) (left_more at₀ all_names_lem o₀ at (names_text behind (drop i (names_in t)) p) o l
+            (name_text behind (name_of w) p) rest next_names o1 b v)
 
 pub ruleset names = (names_start, names_long, names_end, names_room, names_more)
 
@@ -405,16 +406,10 @@ pub ruleset lining = (lines_words, lines_patterns, lines_done)
 
 -- the part of the tables that holds them
 module _ (h : Heads) (sized : Sized h) (long : length h.names ≡ table_words) where
-  all_room : length (names_in h.names) ≡ name_room
-  all_room = table_length h.names long
-
-  pub statuses_fit : h.fields + h.events + (h.stages + h.miles) ≤ length (names_in h.names)
-  statuses_fit = omega (arith, all_room, sized.few_fields, sized.few_events, sized.few_statuses)
-
   module _ (t : List ℕ) (is : t ≡ part_of h.names (h.fields + h.events) (h.stages + h.miles)) where
     pub statuses_few : length (names_in t) ≤ status_limit
     statuses_few =
-        let n = part_length h.names (h.fields + h.events) (h.stages + h.miles) statuses_fit in
+        let n = part_length h.names (h.fields + h.events) (h.stages + h.miles) (statuses_held h sized long) in
         rw is (omega (arith, n, sized.few_statuses))
 
     names_are : names_in t ≡ status_names_of h
@@ -429,4 +424,4 @@ module _ (h : Heads) (sized : Sized h) (long : length h.names ≡ table_words) w
           → Wrote 0 (prospects_told (status_names_of h) (taken ps)) o o1 r
       statuses_done o1 r v = rw names_are at v
 
-pub ruleset between = (statuses_fit, statuses_few, statuses_room, statuses_done)
+pub ruleset between = (statuses_held, statuses_few, statuses_room, statuses_done)

@@ -265,7 +265,8 @@ module _ (neg : Bool) (s : List ℕ) (leaves : ℕ) (st fd : List ℕ) (p : Name
     pub leaf_room : n ≤ length s
     leaf_room = name_fits p s is w n e
 
-    pub leaf_known : (r : LeafRead) → r ≡ as_leaf neg s (namedLeaf leaves (place_of (found_in w (kept_in st))) (place_of (found_in w (kept_in fd))) 0 (drop n s))
+    pub leaf_known : (r : LeafRead) → r ≡ as_leaf neg s (namedLeaf leaves (place_of (found_in w (kept_in st))) (place_of (found_in w (kept_in fd))) 0
+        (drop n s))
         → r ≡ as_leaf neg s (read_leaf (names_in st) (names_in fd) leaves 0 s)
     unfolding read_leaf
     leaf_known r er = er ∙ sym (rw (name_got p s is w n e 0, name_found p s is w n e st, name_found p s is w n e fd))

@@ -112,7 +112,8 @@ module _ (st fd : List Name) (d : ℕ) (neg : Bool) (s : List ℕ) (top leaves :
       unfolding items words_i leaves_i
       item_leaf tc r is a p = go (read_leaf st fd leaves 0 s) a p (case_leaf st fd leaves 0 s h (sym eb ∙ tb) d (sym ec ∙ not-true c tc))
         where
-          go : (g : Got Leaf) → r ≡ as_item neg s top leaves g → is ≡ item_space neg was top g → read_item st fd d leaves 0 s ≡ after g (λ x. give (Item.leaf x))
+          go : (g : Got Leaf) → r ≡ as_item neg s top leaves g → is ≡ item_space neg was top g
+              → read_item st fd d leaves 0 s ≡ after g (λ x. give (Item.leaf x))
               → Gives (items st fd neg d) s top leaves r was is
           go (got x l t) a p e = record { answer = a ∙ rw e; space = rw e p }
           go (wrong n l) a p e = record { answer = a ∙ rw e; space = rw e (ap (take top) p) }
@@ -127,7 +128,8 @@ module _ (st fd : List Name) (d : ℕ) (neg : Bool) (s : List ℕ) (top leaves :
         unfolding items conditions words_i leaves_i
         item_group z v ev r is g u eu = rw eu (go r refl)
           where
-            reads : read_item st fd d leaves 0 s ≡ after (read_cond (read_item st fd (d - 1)) (suc leaf_limit) leaves 0 v) (λ c m u. after (due COND (text ")") m u)
+            reads : read_item st fd d leaves 0 s ≡ after (read_cond (read_item st fd (d - 1)) (suc leaf_limit) leaves 0 v)
+                (λ c m u. after (due COND (text ")") m u)
                 (λ _. give (Item.group c)))
             reads = let k : d ≡ suc (d - 1) = omega arith in ap (λ (j : ℕ). read_item st fd j leaves 0 s) k
                 ∙ case_group st fd leaves 0 s h (sym eb ∙ tb) (d - 1) (sym ec ∙ not-false c tc) ∙ rw ev

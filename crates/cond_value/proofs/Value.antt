@@ -133,7 +133,8 @@ module _ (values marks : List ℕ) where
         ∙ runs_c b k (placed_right (leaves_a a) (leaves_c c) q) ws st (Left.some (with or₃ l _)) p
         ∙ ap (λ (v : Kleene). run values marks ws (st * 4 + code (polar b v))) (with_or l _ _))
 
-    runs_a : (b : Bool) {d : ℕ} {a : And} → DeepA d a → LeavesIn status_limit field_limit (leaves_a a) → (ws : List ℕ) (st : ℕ) (l : Left) → Room (suc (need d)) st
+    runs_a : (b : Bool) {d : ℕ} {a : And} → DeepA d a → LeavesIn status_limit field_limit (leaves_a a) → (ws : List ℕ) (st : ℕ) (l : Left)
+        → Room (suc (need d)) st
         → run values marks (words_a b (is l) a ++ ws) (under b st l) ≡ run values marks ws
         (st * 4 + code (polar b (with and₃ l (value_a (status_in marks) (field_in values) a))))
     runs_a b (DeepA.just {d = d} h) q ws st l p =

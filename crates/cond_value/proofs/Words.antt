@@ -216,7 +216,8 @@ module _ (values marks : List ℕ) where
       ∙ ap (λ (k : Kleene). st * 4 + code k) (polar_not b (under n (get_or values f 0)) ∙ ap (polar b) e)
 
   comparison_step : (b : Bool) (f : ℕ) (o : Operator) (k st : ℕ) → f < field_limit → st < 4611686018427387904
-      → step_of values marks (comparison_word b f o k) st ≡ st * 4 + code (polar b (compared (record { field = f; operator = o; number = k }) (field_in values f)))
+      → step_of values marks (comparison_word b f o k) st ≡ st * 4 + code
+      (polar b (compared (record { field = f; operator = o; number = k }) (field_in values f)))
   unfolding comparison_word
   comparison_step b f below k st hf h = below_step b f st hf h (suc k) _ (is_below f k (get_or values f 0))
   comparison_step b f at_most k st hf h = below_step b f st hf h (suc (suc k)) _ (is_most f k (get_or values f 0))

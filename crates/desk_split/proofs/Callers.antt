@@ -66,7 +66,8 @@ module _ (print : List ℕ → List ℕ → List ℕ → List ℕ) (input o : Li
   pub input_long : desk_bytes < length input → (o1 : List ℕ) (r : ℕ) → Wrote 0 (refusal_text LONG 0 0) o o1 r → Front (on_papers print input) r o o1
   input_long h o1 r v = rw (lt-ltb desk_bytes (length input) h) (front_of (refusal_text LONG 0 0) o o1 r v)
 
-  pub input_done : (a : ℕ) → a ≡ paper_length true input → (rest : List ℕ) → rest ≡ drop a input → (b : ℕ) → b ≡ paper_length true rest → length input ≤ desk_bytes
+  pub input_done : (a : ℕ) → a ≡ paper_length true input → (rest : List ℕ) → rest ≡ drop a input → (b : ℕ) → b ≡ paper_length true rest
+      → length input ≤ desk_bytes
       → (last : List ℕ) → last ≡ drop b rest → (o1 : List ℕ) (r : ℕ) → Wrote 0 (print (take a input) (take b rest) last) o o1 r → Front
       (on_papers print input) r o o1
   unfolding first_paper after_paper

@@ -168,7 +168,8 @@ module _ (h : Heads) (s : List ℕ) (e p count at : ℕ) (fields values starts l
             let few = count_few h e count g.sized g.counted in
             let many = length-map g.ps entry_of ∙ g.part.many in
             let long : length (map (field_name h) fs) ≡ length fs = length-map fs (field_name h) in
-            let w : put (heads_of h) f 1 (drop at s) ≡ got a 1 (drop (n + k) (drop at s)) = put_is (heads_of h) f 1 (drop at s) ∙ rw (field_name_lem, value.is 1) in
+            let w : put (heads_of h) f 1 (drop at s) ≡ got a 1 (drop (n + k) (drop at s)) = put_is (heads_of h) f 1 (drop at s)
+            ∙ rw (field_name_lem, value.is 1) in
             let name : get_or (map (field_name h) fs) i [] ≡ field_name h f = rw (
               ← add-zero i,
               ← get_or-drop i (map (field_name h) fs) 0 [],

@@ -40,7 +40,8 @@ lowest_keep into k (p ∷ ps) = go (edge into p k) (lowest_keep into k ps)
     go true ih = refl
     go false ih = ih
 
-lowest_and : (masks : List ℕ) (left k : ℕ) → left < 2 ^ width → lowest_into (mask_into masks) (members left) k ≡ first_of (members (bit_and left (get_or masks k 0)))
+lowest_and : (masks : List ℕ) (left k : ℕ) → left < 2 ^ width → lowest_into (mask_into masks) (members left) k
+    ≡ first_of (members (bit_and left (get_or masks k 0)))
 unfolding members
 lowest_and masks left k h =
     lowest_keep (mask_into masks) k (members left)

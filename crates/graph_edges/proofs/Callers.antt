@@ -188,7 +188,8 @@ module _ (n m : ℕ) (few : n ≤ status_limit) (ws : List ℕ) (p k : ℕ) wher
       after : List T.Test
       after = keep (λ q. eqb q.node k) ts
 
-      here : (b : Bool) → line_from ws rs p k ≡ line_in (first_from p after) → cond b t.line (line_from ws rs p k) ≡ line_in (cond b (some t) (first_from p after))
+      here : (b : Bool) → line_from ws rs p k ≡ line_in (first_from p after)
+          → cond b t.line (line_from ws rs p k) ≡ line_in (cond b (some t) (first_from p after))
       here true e = refl
       here false e = e
 

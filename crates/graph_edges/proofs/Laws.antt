@@ -2,12 +2,12 @@
 use Prim.Native.Nat.{ℕ, zero, suc, ◌+◌, ◌-◌, ◌*◌, ◌/◌, ◌%◌, ◌^◌, ◌≤◌, ◌<◌}
 use mathlib.Core.Path.{◌≡◌, refl, sym, ◌∙◌, ap, ap₂, subst}
 use mathlib.Core.Bool.{Bool, true, false, cond, ◌&&◌, ◌||◌, or-false, or_assoc}
-use mathlib.Core.List.{List, [], ◌∷◌, ◌++◌, map, append-nil}
+use mathlib.Core.List.{List, [], ◌∷◌, ◌++◌, append-nil}
 use native.Mathlib.Omega.{arith}
 use native.Mathlib.Numerals.{add-one}
 use native.Mathlib.Decide.{ℕ_discrete}
 use lib.Dec.{eqb, ltb}
-use lib.ListN.{length, get_or, take, drop, set, replicate, length-set, length-drop, length-map, drop_of_length-le}
+use lib.ListN.{length, get_or, take, drop, set, replicate, length-set, length-drop, drop_of_length-le}
 use lib.Seq.{take_all, take-nil, take-suc, drop-cons, get_or-drop, get_or-set_same, get_or-set_other}
 use borrow.Author.Tests.{eq-eqb, ne_eqb, lt-ltb, le-ltb, le-leb, lt-leb}
 use Rattle.meaning.specs.Text.{any, is_in, keep, joined}
@@ -282,7 +282,8 @@ module _ (words : List ℕ) (rows : List Test) (count : ℕ) (was : List ℕ) wh
         let z : i ≡ count = omega arith in
         subst (λ m. Added (tests_into words (take m rows)) was is) z s.added
 
-    pub adding_next : (d : Test) (after : List ℕ) → i < count → i < test_room → Added (toward (get_or rows i d).node (test_nodes words (get_or rows i d))) is after
+    pub adding_next : (d : Test) (after : List ℕ) → i < count → i < test_room
+        → Added (toward (get_or rows i d).node (test_nodes words (get_or rows i d))) is after
         → (j : ℕ) → j ≡ i + 1 → Adding words rows count was after j
     unfolding tests_into rows_for toward
     adding_next d after h l a j e =
@@ -308,7 +309,8 @@ module _ (words : List ℕ) (rows : List Test) (statuses : ℕ) (is : List ℕ) 
   unfolding edge
   alike p k c d = a.edges p k (omega arith) (omega arith) ∙ ap (λ t. t || is_in p (tests_into words rows k)) (edges_none node_room p k)
 
-  pub order_of_lem : (r : Sorting) → r ≡ as_sorting (order_for (statuses * 2) (mask_into is)) → r ≡ as_sorting (order_for (statuses * 2) (tests_into words rows))
+  pub order_of_lem : (r : Sorting) → r ≡ as_sorting (order_for (statuses * 2) (mask_into is))
+      → r ≡ as_sorting (order_for (statuses * 2) (tests_into words rows))
   order_of_lem r = sort_same is (statuses * 2) (tests_into words rows) r (omega arith) alike
 
   pub circle_of : (r : Circle) → r ≡ as_circle (circle_for (statuses * 2) (mask_into is)) → r ≡ as_circle (circle_for (statuses * 2) (tests_into words rows))
@@ -373,7 +375,8 @@ module _ (words : List ℕ) (rows : List Test) (count p k : ℕ) where
       one_more =
           let n : length rows ≡ test_room = s.held in
           let z : count - i ≡ suc (count - (i + 1)) = omega arith in
-          s.same ∙ ap₂ (λ m ts. line_from words (take m ts) p k) z (drop-cons rows i d (omega arith) ∙ ap (λ m. get_or rows i d ∷ drop m rows) (sym (add-one i)))
+          s.same ∙ ap₂ (λ m ts. line_from words (take m ts) p k) z (drop-cons rows i d (omega arith)
+          ∙ ap (λ m. get_or rows i d ∷ drop m rows) (sym (add-one i)))
 
       pub lining_found : (b : Bool) → b ≡ gives → b ≡ true → (r : ℕ) → r ≡ (get_or rows i d).line → r ≡ line_from words (take count rows) p k
       lining_found b e t r g = g ∙ sym (one_more ∙ ap line_by (sym e ∙ t))

@@ -139,7 +139,8 @@ module _ (masks : List ℕ) (left n : ℕ) where
     passed h true false t w q = absurd (true≢false q)
     passed h false c t w q = ap (first_free (mask_into masks) (members left)) (members_past left i h t)
 
-    pub seek_found : (b : Bool) → n ≤ node_room → i < n → b ≡ has left i && not (meet (get_or masks i 0) left) → b ≡ true → Node i ≡ as_free (free_of masks left)
+    pub seek_found : (b : Bool) → n ≤ node_room → i < n → b ≡ has left i && not (meet (get_or masks i 0) left) → b ≡ true
+        → Node i ≡ as_free (free_of masks left)
     seek_found b h l e t =
         let both : has left i && not (meet (get_or masks i 0) left) ≡ true = sym e ∙ t in
         let here : has left i ≡ true = and_left (has left i) (not (meet (get_or masks i 0) left)) both in

@@ -2,13 +2,13 @@
 use Prim.Native.Nat.{ℕ, zero, suc, ◌+◌, ◌-◌, ◌*◌, ◌≤◌, ◌<◌, min}
 use mathlib.Core.Path.{◌≡◌, refl, sym, ap, ap₂, ◌∙◌}
 use mathlib.Core.Bool.{true, false}
-use mathlib.Core.List.{List, [], ◌∷◌, ◌++◌, map}
+use mathlib.Core.List.{List, [], ◌∷◌, ◌++◌}
 use native.Mathlib.Omega.{arith}
 use native.Mathlib.Nat.{add-zero}
 use native.Mathlib.Numerals.{add-one}
 use mir.Val.{Fits}
 use mir.Syntax.{w16, w64}
-use lib.ListN.{length, length-map, length-take, length-append, drop_of_length-le, get_or, take, drop, set, replicate}
+use lib.ListN.{length, length-take, length-append, drop_of_length-le, get_or, take, drop, set, replicate}
 use lib.Seq.{sets, drop-cons, get_or-take}
 use Rattle.meaning.specs.Limits.{rule_limit, status_limit}
 use Rattle.theory.specs.Lists.Padded.{padded, take_low, padded_sets, laid}
@@ -111,7 +111,8 @@ module _ (under : List ℕ) (line : ℕ) (rules : Rules) (count : ℕ) (rows : L
       let many : length (rule_rows under line all) ≡ count = rows_count under line all ∙ length-take count rules.rows ∙ omega (arith, inv.low, inv.long) in
       let none : drop i all ≡ [] = drop_of_length-le all {i = i} (rw length-take (omega arith)) in
       ap₂ (λ (r : List Test) n. record { rows = r; count = n })
-      (sym (inv.same ∙ ap (λ rs. sets rows i (rule_rows under (line + i) rs)) none) ∙ laid test_room no_test (rule_rows under line all) (omega (arith, inv.low)))
+      (sym (inv.same ∙ ap (λ rs. sets rows i (rule_rows under (line + i) rs)) none)
+      ∙ laid test_room no_test (rule_rows under line all) (omega (arith, inv.low)))
       (sym many)
 
   pub ruling_done : count ≤ i → record { rows = rows; count = count } ≡ as_tests (rule_rows under line (take rules.count rules.rows))

@@ -229,7 +229,11 @@ module _ (a : Accepted) (m : Moment) (l : Listed) (told : l ≡ as_listed a m) w
       module _ (h : n ≤ length lent) where
         pub outlook_reply_lem : ◌≡◌ {A = Reply} (record { number = 0; paper = 0; line = 0; count = n; tasks = 0 }) (reply_for a m (length lent))
         unfolding reply_for
-        outlook_reply_lem = rw (within_told n z).1 (sym (rw ((within_told n z).0, le-leb (length (list_of a m)) (length lent) (omega (arith, (within_told n z).1)))))
+        outlook_reply_lem = rw (within_told n z).1 (sym (rw (
+          (within_told n z).0,
+          le-leb (length (list_of a m)) (length lent)
+              (omega (arith, (within_told n z).1)),
+        )))
 
         pub outlook_space_lem : (now : List ℕ) → now ≡ take n ps ++ drop n lent → now ≡ space_for a m lent
         unfolding space_for

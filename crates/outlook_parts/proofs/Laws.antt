@@ -261,7 +261,8 @@ module _ (words : List ℕ) (top fields : ℕ) (values flat-was lens-was : List 
           (s.lists ∙ ap (λ z. s.done ++ z) (ap (until p) next ∙ until_many p r rest k))
           (rw (lt-ltb part_limit (size rs) big)) next_front next_long next_lengths
 
-      pub filling_more : p * n ≤ part_limit → (t j : ℕ) → t ≡ total + n → j ≡ f + 1 → Filling ws fields values flat-was after lens-was (set lens f n) t (p * n) j
+      pub filling_more : p * n ≤ part_limit → (t j : ℕ) → t ≡ total + n → j ≡ f + 1
+          → Filling ws fields values flat-was after lens-was (set lens f n) t (p * n) j
       filling_more h t j et ej =
           let k : p * length r ≤ part_limit = rw g.count at h in
           let z : j ≡ suc f = omega arith in

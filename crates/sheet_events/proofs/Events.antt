@@ -46,7 +46,8 @@ events_start s before start z small =
 abbrev pub tail : M.Heads → Name → (M.Heads → Reader M.Heads) → Reader M.Heads
 tail hd w g = λ l t. after (carried hd.fields (suc (length hd.fields)) [] l t) (λ fs. g (with_event hd (record { name = w; carries = fs })))
 
-pub rows : (hd : M.Heads) (g : M.Heads → Reader M.Heads) (l : ℕ) (t : List ℕ) → after (event_row hd l t) g ≡ after (new_name (all_names hd) l t) (λ w. tail hd w g)
+pub rows : (hd : M.Heads) (g : M.Heads → Reader M.Heads) (l : ℕ) (t : List ℕ)
+    → after (event_row hd l t) g ≡ after (new_name (all_names hd) l t) (λ w. tail hd w g)
 unfolding event_row
 rows hd g l t = simp after_after
 

@@ -65,7 +65,8 @@ module _ (names : List ℕ) (fields events statuses : ℕ) (fs es ss : List ℕ)
   pub rules_parts : (s : List ℕ) (r : RulesRead) → r ≡ as_rules_read (rules_of (names_in fs) (names_in es) (names_in ss) 0 s) → r ≡ as_rules_read (tabled s)
   rules_parts s r e = e ∙ ap as_rules_read (parted_is s)
 
-  pub rules_parts_space : (s was now : List ℕ) → now ≡ words_space was (rules_of (names_in fs) (names_in es) (names_in ss) 0 s) → now ≡ words_space was (tabled s)
+  pub rules_parts_space : (s was now : List ℕ) → now ≡ words_space was (rules_of (names_in fs) (names_in es) (names_in ss) 0 s)
+      → now ≡ words_space was (tabled s)
   rules_parts_space s was now e = e ∙ ap (words_space was) (parted_is s)
 
 module _ (s was now : List ℕ) (fs es ss : List Name) (rows : RowsRead)

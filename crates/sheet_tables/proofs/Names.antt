@@ -11,9 +11,11 @@ use Rattle.meaning.specs.Text.{from}
 use Rattle.meaning.specs.Name.{Name}
 use Rattle.meaning.specs.Sheet.{Status, statuses, status_names}
 use Rattle.theory.specs.Lists.Members.{from_length, from_both}
-use Rattle.name.specs.Names.{name_of, names_in}
+use Rattle.limits.specs.Sizes.{name_room}
+use Rattle.name.specs.Names.{name_of, names_in, table_words}
+use Rattle.name.proofs.Tables.{table_length}
 use Rattle.sheet_tables.specs.declared.Heads.{Heads}
-use Rattle.sheet_tables.specs.Heads.{names_at, status_at, heads_of}
+use Rattle.sheet_tables.specs.Heads.{Sized, names_at, status_at, heads_of}
 
 -- the first names, from place i on
 pub names_cons : (ns : List Name) (count i : ℕ) → i < count → count ≤ length ns → drop i (take count ns) ≡ get_or ns i [] ∷ drop (i + 1) (take count ns)
@@ -30,7 +32,8 @@ unfolding heads_of names_at
 fields_are h = refl
 
 -- the names at the places from a + b on
-pub names_from : {A : Type 0} (ns : List Name) (a : ℕ) (f : ℕ → A) (g : A → Name) → ((x : ℕ) → g (f x) ≡ get_or ns (a + x) []) → (n b : ℕ) → a + b + n ≤ length ns
+pub names_from : {A : Type 0} (ns : List Name) (a : ℕ) (f : ℕ → A) (g : A → Name) → ((x : ℕ) → g (f x) ≡ get_or ns (a + x) []) → (n b : ℕ)
+    → a + b + n ≤ length ns
     → map g (map f (from b n)) ≡ take n (drop (a + b) ns)
 unfolding from
 names_from ns a f g h zero b w = refl
@@ -51,3 +54,14 @@ statuses_are h w =
 pub stages_length : (h : Heads) → length (heads_of h).stages ≡ h.stages
 unfolding heads_of
 stages_length h = length-map (from 0 h.stages) (status_at h) ∙ from_length h.stages 0
+
+-- the table of names holds them all
+module _ (h : Heads) (sized : Sized h) (long : length h.names ≡ table_words) where
+  names_held : length (names_in h.names) ≡ name_room
+  names_held = table_length h.names long
+
+  pub fields_held : h.fields ≤ length (names_in h.names)
+  fields_held = omega (arith, names_held, sized.few_fields)
+
+  pub statuses_held : h.fields + h.events + (h.stages + h.miles) ≤ length (names_in h.names)
+  statuses_held = omega (arith, names_held, sized.few_fields, sized.few_events, sized.few_statuses)

@@ -219,7 +219,8 @@ module _ (n : Kept) (m : ℕ) where
     pub no_room : (m ≡ 2 → ⊥) → at + length (line (name_of n) (text "no")) ≤ length o
     no_room e = rw (← mark_no e) fits
 
-  pub yes_done : (at : ℕ) (o o1 : List ℕ) (r : ℕ) → m ≡ 2 → Wrote at (line (name_of n) (text "yes")) o o1 r → Wrote at (line (name_of n) (mark (is_yes m))) o o1 r
+  pub yes_done : (at : ℕ) (o o1 : List ℕ) (r : ℕ) → m ≡ 2 → Wrote at (line (name_of n) (text "yes")) o o1 r
+      → Wrote at (line (name_of n) (mark (is_yes m))) o o1 r
   yes_done at o o1 r e y = rw (mark_yes e) y
 
   pub no_done : (at : ℕ) (o o1 : List ℕ) (r : ℕ) → (m ≡ 2 → ⊥) → Wrote at (line (name_of n) (text "no")) o o1 r

@@ -41,7 +41,8 @@ module _ (a : Accepted) (c : Card) (h : Happening) (card event was : List ℕ) (
   unfolding text_after
   text_is = ap (next_text (heads_of a.heads) event card h c) marks_are
 
-  pub next_space : (now : List ℕ) → now ≡ space_with was (next_text (heads_of a.heads) event card h c marks) → now ≡ space_with was (text_after a c h card event)
+  pub next_space : (now : List ℕ) → now ≡ space_with was (next_text (heads_of a.heads) event card h c marks)
+      → now ≡ space_with was (text_after a c h card event)
   next_space now e = e ∙ ap (space_with was) text_is
 
   fits_told : (b : Bool) → leb (length (text_after a c h card event)) (length was) ≡ b

@@ -221,6 +221,7 @@ module _ (hd : Heads) (few : length (statuses hd) ≤ status_limit) (before afte
   pub tasks_are : (under : List ℕ) (n : ℕ) (bm am : List ℕ) (r : ℕ) → under ≡ padded status_limit 0 (map (λ s. under_code s.under) (statuses hd))
       → n ≡ length hd.stages
       → bm ≡ marked before → am ≡ marked after
-      → r ≡ pattern (side_of (take n (task_marks (mark_parents (replicate status_limit 0) (take n under)) bm am))) → r ≡ pattern (started hd.stages before after)
+      → r ≡ pattern (side_of (take n (task_marks (mark_parents (replicate status_limit 0) (take n under)) bm am)))
+      → r ≡ pattern (started hd.stages before after)
   tasks_are under n bm am r u k b a e =
       e ∙ rw (u, k, b, a, codes_taken) (ap pattern tasks_side)

@@ -55,7 +55,8 @@ module _ (fields puts values : List ℕ) (count : ℕ) where
     unfolding put_codes
     put_over h = sym (inv.same ∙ ap (λ fs. put_codes fs (drop i puts) after) (rest_over count fields i (omega arith)))
 
-    pub put_more : i < count → i < field_limit → length puts ≡ field_limit → (a : List ℕ) → a ≡ set after (get_or fields i 0) (get_or puts i 0) → (n : ℕ) → n ≡ i + 1
+    pub put_more : i < count → i < field_limit → length puts ≡ field_limit → (a : List ℕ) → a ≡ set after (get_or fields i 0) (get_or puts i 0) → (n : ℕ)
+        → n ≡ i + 1
         → Putting fields puts values count a n
     unfolding put_codes
     put_more h g wide a e n z = rw (z, add-one, e) (record {
@@ -126,7 +127,8 @@ module _ (marks : List ℕ) (n : ℕ) where
         go true = omega arith
         go false = omega arith
 
-    pub count_more : length marks ≡ status_limit → (j : ℕ) → j ≡ i - 1 → (b : ℕ) → b ≡ cond (yes_at marks j) 1 0 → (r : ℕ) → r ≡ p * 2 + b → Counting marks n r j
+    pub count_more : length marks ≡ status_limit → (j : ℕ) → j ≡ i - 1 → (b : ℕ) → b ≡ cond (yes_at marks j) 1 0 → (r : ℕ) → r ≡ p * 2 + b
+        → Counting marks n r j
     unfolding side_of
     count_more long j e b f r s =
         let z : i ≡ suc j = omega arith in

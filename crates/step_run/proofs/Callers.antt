@@ -185,7 +185,8 @@ tests_fit sh fits t i =
 module _ (sh : Sheet) (w : Well sh) (fits : AllFit sh) (o : List ℕ) (once : Once o) (only : (k : ℕ) → In k o → k < nodes sh.heads)
     (m : M.Moment) (full : length m.before ≡ length (statuses sh.heads)) where
   -- the run over its plan, with its words at the start of any
-  pub sheet_leads : (ws rest : List ℕ) → ws ≡ all_words sh.rules ++ rest → run_over ws (as_moment m) (plan_for (rows_of sh) o) ≡ marked (leads_to (tests sh) m o)
+  pub sheet_leads : (ws rest : List ℕ) → ws ≡ all_words sh.rules ++ rest
+      → run_over ws (as_moment m) (plan_for (rows_of sh) o) ≡ marked (leads_to (tests sh) m o)
   unfolding nodes
   sheet_leads ws rest e =
       run_leads (tests sh) (rows_of sh) ws (rows_stand sh ws rest e) (tests_fit sh fits) (tests_few sh w) o once (nodes sh.heads) only m (omega (arith, full))

@@ -145,7 +145,8 @@ module _ (words : List ℕ) (m : Moment) (after : List ℕ) (all : List Test) wh
   }
 
   module _ (rows : List ℕ) (j : ℕ) (inv : Telling rows j) where
-    pub tell_next : j < test_room → (d : Test) (c : ℕ) → c ≡ row_told words m after (get_or all j d) → c < 1000000 → (n : ℕ) → n ≡ j + 1 → Telling (set rows j c) n
+    pub tell_next : j < test_room → (d : Test) (c : ℕ) → c ≡ row_told words m after (get_or all j d) → c < 1000000 → (n : ℕ) → n ≡ j + 1
+        → Telling (set rows j c) n
     tell_next h d c is l n z = rw (z, add-one) (record {
       long = inv.long;
       full = length-set rows j c ∙ inv.full;

@@ -1,6 +1,4 @@
 use borrow.Author.Rules.{rules}
-use Prim.Native.Nat.{◌-◌}
-use Rattle.meaning.specs.Card.{orphan}
 use Rattle.card_read.proofs.Marks.{scanning}
 use Rattle.card_read.proofs.first_orphan.Goals as goal
 

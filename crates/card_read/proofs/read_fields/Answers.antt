@@ -1,5 +1,4 @@
 use borrow.Author.Rules.{rules}
-use Prim.Native.Nat.{◌-◌}
 use Rattle.card_read.proofs.Fields.{fielding}
 use Rattle.card_read.proofs.read_fields.Goals as goal
 

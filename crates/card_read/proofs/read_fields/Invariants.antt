@@ -7,7 +7,7 @@ use Rattle.card_read.proofs.Fields.{FieldsAt}
 use Rattle.card_read.proofs.read_fields.Given as goal
 
 abbrev pub invariant-loop-i : goal.invariant-loop-i
-invariant-loop-i l =    (l.i ≤ l.count) × FieldsAt l.s (take l.count (names_in l.names)) l.from l.at l.values l.starts l.lengths l.i
+invariant-loop-i l = (l.i ≤ l.count) × FieldsAt l.s (take l.count (names_in l.names)) l.from l.at l.values l.starts l.lengths l.i
 
 abbrev pub decreases-loop-i : goal.decreases-loop-i
 decreases-loop-i l = l.count - l.i

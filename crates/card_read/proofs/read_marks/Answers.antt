@@ -1,5 +1,4 @@
 use borrow.Author.Rules.{rules}
-use Prim.Native.Nat.{◌-◌}
 use Rattle.card_read.proofs.Marks.{marking}
 use Rattle.card_read.proofs.read_marks.Goals as goal
 

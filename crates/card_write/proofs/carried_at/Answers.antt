@@ -1,7 +1,5 @@
 use borrow.Author.Rules.{rules}
-use Prim.Native.Nat.{◌-◌}
-use Rattle.std.proofs.Common.{refl}
-use Rattle.card_write.proofs.Rows.{carrying, carried_more}
+use Rattle.card_write.proofs.Rows.{carried_more, carrying}
 use Rattle.card_write.proofs.carried_at.Goals as goal
 
 pub loop-i-init : goal.loop-i-init
@@ -26,8 +24,7 @@ pub loop-i-smaller : goal.loop-i-smaller
 loop-i-smaller c = search (rules, carrying)
 
 pub loop-i-preserved : goal.loop-i-preserved
-loop-i-preserved c =
-    carried_more _ _ _ _ c.loop-i.invariant c.loop-i-test.true c.if-fields-i.false _ c.place.ensures c.if-place-f.false _ refl
+loop-i-preserved c = search carried_more
 
 pub returns : goal.returns
 returns c = search (rules, carrying)

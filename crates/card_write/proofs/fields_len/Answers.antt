@@ -1,6 +1,4 @@
 use borrow.Author.Rules.{rules}
-use Prim.Native.Nat.{◌-◌}
-use Rattle.card_write.specs.Texts.{value_text}
 use Rattle.card_write.proofs.Rows.{fields_measuring}
 use Rattle.card_write.proofs.fields_len.Goals as goal
 

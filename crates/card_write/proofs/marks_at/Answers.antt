@@ -1,6 +1,4 @@
 use borrow.Author.Rules.{rules}
-use Prim.Native.Nat.{◌-◌}
-use Rattle.card_write.specs.Lines.{mark_at}
 use Rattle.card_write.proofs.Rows.{marks_writing}
 use Rattle.card_write.proofs.marks_at.Goals as goal
 

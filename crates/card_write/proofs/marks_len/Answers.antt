@@ -1,5 +1,4 @@
 use borrow.Author.Rules.{rules}
-use Prim.Native.Nat.{◌-◌}
 use Rattle.card_write.proofs.Rows.{marks_measuring}
 use Rattle.card_write.proofs.marks_len.Goals as goal
 

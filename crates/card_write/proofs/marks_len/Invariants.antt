@@ -8,7 +8,7 @@ use Rattle.card_write.specs.Lines.{mark_at, lines_from}
 use Rattle.card_write.proofs.marks_len.Given as goal
 
 abbrev pub invariant-loop-x : goal.invariant-loop-x
-invariant-loop-x l =    (l.x ≤ l.n) × (l.k ≤ l.x * (spell_room + 5)) × (l.k + length (lines_from (mark_at l.marks) (drop l.x (names_in l.names)) l.x) ≡ length
+invariant-loop-x l = (l.x ≤ l.n) × (l.k ≤ l.x * (spell_room + 5)) × (l.k + length (lines_from (mark_at l.marks) (drop l.x (names_in l.names)) l.x) ≡ length
     (lines_from (mark_at l.marks) (names_in l.names) 0))
 
 abbrev pub decreases-loop-x : goal.decreases-loop-x

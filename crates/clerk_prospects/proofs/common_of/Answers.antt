@@ -1,5 +1,4 @@
 use borrow.Author.Rules.{rules}
-use Prim.Native.Nat.{◌-◌}
 use Rattle.clerk_prospects.proofs.Laws.{common}
 use Rattle.clerk_prospects.proofs.common_of.Goals as goal
 

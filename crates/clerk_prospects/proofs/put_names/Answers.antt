@@ -1,5 +1,4 @@
 use borrow.Author.Rules.{rules}
-use Prim.Native.Nat.{◌-◌}
 use Rattle.clerk_prospects.proofs.Laws.{names}
 use Rattle.clerk_prospects.proofs.put_names.Goals as goal
 

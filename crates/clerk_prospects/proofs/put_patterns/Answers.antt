@@ -1,5 +1,4 @@
 use borrow.Author.Rules.{rules}
-use Prim.Native.Nat.{◌-◌}
 use Rattle.desk_print.proofs.Laws.{listing}
 use Rattle.clerk_prospects.proofs.Laws.{patterns_room}
 use Rattle.clerk_prospects.proofs.put_patterns.Goals as goal

@@ -8,7 +8,8 @@ use Rattle.theory.specs.Writing.Lent.{Left}
 use Rattle.clerk_prospects.proofs.put_patterns.Given as goal
 
 abbrev pub invariant-loop-k : goal.invariant-loop-k
-invariant-loop-k l =    Left l.at (joined (pattern_line (names_in l.names)) l.patterns) l.initial.out l.to (joined (pattern_line (names_in l.names)) (drop l.k l.patterns)) l.out
+invariant-loop-k l =
+    Left l.at (joined (pattern_line (names_in l.names)) l.patterns) l.initial.out l.to (joined (pattern_line (names_in l.names)) (drop l.k l.patterns)) l.out
 
 abbrev pub decreases-loop-k : goal.decreases-loop-k
 decreases-loop-k l = length l.patterns - l.k

@@ -1,5 +1,4 @@
 use borrow.Author.Rules.{rules}
-use Prim.Native.Nat.{◌-◌}
 use Rattle.clerk_prospects.proofs.Laws.{words}
 use Rattle.clerk_prospects.proofs.put_words.Goals as goal
 

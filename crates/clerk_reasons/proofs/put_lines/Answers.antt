@@ -1,5 +1,4 @@
 use borrow.Author.Rules.{rules}
-use Prim.Native.Nat.{◌-◌}
 use Rattle.desk_print.proofs.Laws.{listing}
 use Rattle.clerk_reasons.proofs.Laws.{lines_room, all}
 use Rattle.clerk_reasons.proofs.put_lines.Goals as goal

@@ -7,7 +7,9 @@ use Rattle.clerk_reasons.specs.Lines.{reason_text}
 use Rattle.clerk_reasons.proofs.put_lines.Given as goal
 
 abbrev pub invariant-loop-i : goal.invariant-loop-i
-invariant-loop-i l =    Left 0 (joined (reason_text l.sheet l.starts l.heads l.marks) l.reasons) l.initial.out l.to (joined (reason_text l.sheet l.starts l.heads l.marks) (drop l.i l.reasons)) l.out
+invariant-loop-i l =
+    Left 0 (joined (reason_text l.sheet l.starts l.heads l.marks) l.reasons) l.initial.out l.to
+    (joined (reason_text l.sheet l.starts l.heads l.marks) (drop l.i l.reasons)) l.out
 
 abbrev pub decreases-loop-i : goal.decreases-loop-i
 decreases-loop-i l = length l.reasons - l.i

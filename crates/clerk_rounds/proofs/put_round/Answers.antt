@@ -1,5 +1,4 @@
 use borrow.Author.Rules.{rules}
-use Prim.Native.Nat.{◌-◌}
 use Rattle.clerk_rounds.proofs.Laws.{rounding}
 use Rattle.clerk_rounds.proofs.put_round.Goals as goal
 

@@ -7,7 +7,7 @@ use Rattle.clerk_rounds.proofs.Laws.{round_from}
 use Rattle.clerk_rounds.proofs.put_round.Given as goal
 
 abbrev pub invariant-loop-i : goal.invariant-loop-i
-invariant-loop-i l =    Left l.at (round_text l.heads l.words (take l.tests.count l.tests.rows) (take l.circle.len l.circle.nodes)) l.initial.out l.to
+invariant-loop-i l = Left l.at (round_text l.heads l.words (take l.tests.count l.tests.rows) (take l.circle.len l.circle.nodes)) l.initial.out l.to
     (round_from l.heads l.words (take l.tests.count l.tests.rows) (take l.circle.len l.circle.nodes) l.i) l.out
 
 abbrev pub decreases-loop-i : goal.decreases-loop-i

@@ -1,5 +1,4 @@
 use borrow.Author.Rules.{rules}
-use Prim.Native.Nat.{◌-◌}
 use Rattle.cond_item.proofs.Steps.{clearing}
 use Rattle.cond_item.proofs.clear.Goals as goal
 

@@ -1,6 +1,6 @@
 use Rattle.std.proofs.Common.{rules}
-use Rattle.cond_read.proofs.Listed.{list_end, list_less, list_on, list_refused, list_room_lem, list_start}
-use Rattle.cond_read.proofs.Items.{item_ended, item_group, item_group_deep, item_leaf, item_not, item_not_deep, item_not_within}
+use Rattle.cond_read.proofs.Listed.{list_start, list_ready, list_refused, list_fits, list_room_lem, list_end, list_on, list_less, list_next}
+use Rattle.cond_read.proofs.Items.{item_ended, item_not_deep, item_not_within, item_not, item_leaf, item_group_deep, item_group_within, item_group}
 use Rattle.cond_read.proofs.+readers.Goals as goal
 
 pub and_list-loop-q-init : goal.and_list-loop-q-init
@@ -59,3 +59,24 @@ item-returns-then-around-eq0-2 t c = search (rules, item_group_deep)
 
 pub item-returns : goal.item-returns
 item-returns t c = search (rules, item_group)
+
+pub and_list-item-r-requires : goal.and_list-item-r-requires
+and_list-item-r-requires t c = search (rules, list_ready)
+
+pub and_list-overflow_add-end : goal.and_list-overflow_add-end
+and_list-overflow_add-end t c = search (rules, list_fits)
+
+pub and_list-overflow_add-at : goal.and_list-overflow_add-at
+and_list-overflow_add-at t c = search (rules, list_next)
+
+pub condition-and_list-r-requires : goal.condition-and_list-r-requires
+condition-and_list-r-requires t c = search (rules, list_ready)
+
+pub condition-overflow_add-end : goal.condition-overflow_add-end
+condition-overflow_add-end t c = search (rules, list_fits)
+
+pub condition-overflow_add-at : goal.condition-overflow_add-at
+condition-overflow_add-at t c = search (rules, list_next)
+
+pub item-closed-requires : goal.item-closed-requires
+item-closed-requires t c = search item_group_within

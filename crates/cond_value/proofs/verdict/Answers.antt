@@ -1,5 +1,4 @@
 use borrow.Author.Rules.{rules}
-use Prim.Native.Nat.{◌-◌}
 use Rattle.cond_value.proofs.Steps.{running}
 use Rattle.cond_value.proofs.verdict.Goals as goal
 

@@ -1,5 +1,4 @@
 use borrow.Author.Rules.{rules}
-use Prim.Native.Nat.{◌-◌}
 use Rattle.desk_print.proofs.Laws.{listing}
 use Rattle.desk_output.proofs.Lines.{patterns_room}
 use Rattle.desk_output.proofs.put_patterns.Goals as goal

@@ -1,5 +1,4 @@
 use borrow.Author.Rules.{rules}
-use Prim.Native.Nat.{◌-◌}
 use Rattle.desk_split.proofs.Laws.{passing}
 use Rattle.desk_split.proofs.paper_len.Goals as goal
 

@@ -1,5 +1,4 @@
 use borrow.Author.Rules.{rules}
-use Prim.Native.Nat.{◌-◌}
 use Rattle.event_read.proofs.Events.{putting}
 use Rattle.event_read.proofs.read_puts.Goals as goal
 

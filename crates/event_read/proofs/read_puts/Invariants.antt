@@ -6,7 +6,7 @@ use Rattle.event_read.proofs.Events.{PutsAt}
 use Rattle.event_read.proofs.read_puts.Given as goal
 
 abbrev pub invariant-loop-i : goal.invariant-loop-i
-invariant-loop-i l =    (l.i ≤ l.count) × (l.count ≤ field_limit) × PutsAt l.h l.s l.event l.from l.count l.at l.fields l.values l.starts l.lengths l.i
+invariant-loop-i l = (l.i ≤ l.count) × (l.count ≤ field_limit) × PutsAt l.h l.s l.event l.from l.count l.at l.fields l.values l.starts l.lengths l.i
 
 abbrev pub decreases-loop-i : goal.decreases-loop-i
 decreases-loop-i l = l.count - l.i

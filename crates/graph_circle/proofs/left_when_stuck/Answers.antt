@@ -1,5 +1,4 @@
 use borrow.Author.Rules.{rules}
-use Prim.Native.Nat.{◌-◌}
 use Rattle.graph_circle.proofs.Laws.{taking}
 use Rattle.graph_circle.proofs.left_when_stuck.Goals as goal
 

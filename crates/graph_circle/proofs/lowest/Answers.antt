@@ -1,5 +1,4 @@
 use borrow.Author.Rules.{rules}
-use Prim.Native.Nat.{◌-◌}
 use Rattle.graph_circle.proofs.Laws.{looking}
 use Rattle.graph_circle.proofs.lowest.Goals as goal
 

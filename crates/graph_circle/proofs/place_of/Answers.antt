@@ -1,5 +1,4 @@
 use borrow.Author.Rules.{rules}
-use Prim.Native.Nat.{◌-◌}
 use Rattle.graph_circle.proofs.Laws.{placing}
 use Rattle.graph_circle.proofs.place_of.Goals as goal
 

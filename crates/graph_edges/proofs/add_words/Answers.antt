@@ -1,5 +1,4 @@
 use borrow.Author.Rules.{rules}
-use Prim.Native.Nat.{◌-◌}
 use Rattle.graph_edges.proofs.Laws.{reading}
 use Rattle.graph_edges.proofs.add_words.Goals as goal
 

@@ -1,5 +1,4 @@
 use borrow.Author.Rules.{rules}
-use Prim.Native.Nat.{◌-◌}
 use Rattle.graph_edges.proofs.Laws.{lining}
 use Rattle.graph_edges.proofs.edge_line.Goals as goal
 

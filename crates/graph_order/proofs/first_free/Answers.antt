@@ -1,5 +1,4 @@
 use borrow.Author.Rules.{rules}
-use Prim.Native.Nat.{◌-◌}
 use Rattle.graph_order.proofs.Laws.{seeking}
 use Rattle.graph_order.proofs.first_free.Goals as goal
 

@@ -1,5 +1,4 @@
 use borrow.Author.Rules.{rules}
-use Prim.Native.Nat.{◌-◌}
 use Rattle.graph_order.proofs.Laws.{going}
 use Rattle.graph_order.proofs.sort.Goals as goal
 

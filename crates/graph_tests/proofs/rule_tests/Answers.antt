@@ -1,5 +1,4 @@
 use borrow.Author.Rules.{rules}
-use Prim.Native.Nat.{◌-◌}
 use Rattle.graph_tests.proofs.Laws.{ruling}
 use Rattle.graph_tests.proofs.rule_tests.Goals as goal
 

@@ -1,5 +1,4 @@
 -- `rule_tests` answers the tests of the rules. The invariant: those that are left, put down from here on, give what all of them give from the start.
-use borrow.Author.Rules.{rules}
 use Prim.Native.Nat.{◌-◌}
 use Rattle.graph_tests.proofs.Laws.{Ruling}
 use Rattle.graph_tests.proofs.rule_tests.Given as goal

@@ -1,5 +1,4 @@
 use borrow.Author.Rules.{rules}
-use Prim.Native.Nat.{◌-◌}
 use Rattle.graph_tests.proofs.Laws.{shutting}
 use Rattle.graph_tests.proofs.with_closings.Goals as goal
 

@@ -1,6 +1,4 @@
 use borrow.Author.Rules.{rules}
-use Prim.Native.Nat.{◌-◌}
-use Rattle.std.proofs.Common.{refl}
 use Rattle.name.proofs.Laws.{find_here, finding}
 use Rattle.name.proofs.find.Goals as goal
 
@@ -20,7 +18,7 @@ pub overflow_sub-result : goal.overflow_sub-result
 overflow_sub-result c = search (rules, finding)
 
 pub returns-then-names-i-2 : goal.returns-then-names-i-2
-returns-then-names-i-2 c = find_here _ _ _ _ _ c.loop-i.invariant.1 c.loop-i-test.true c.if-names-i.false c.if-names-i-2.true _ refl
+returns-then-names-i-2 c = search find_here
 
 pub overflow_add-i : goal.overflow_add-i
 overflow_add-i c = search (rules, finding)

@@ -1,5 +1,4 @@
 use borrow.Author.Rules.{rules}
-use Prim.Native.Nat.{◌-◌}
 use Rattle.name.proofs.Spelt.{measuring}
 use Rattle.name.proofs.name_len.Goals as goal
 

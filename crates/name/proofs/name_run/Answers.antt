@@ -1,7 +1,4 @@
 use borrow.Author.Rules.{rules}
-use Prim.Native.Nat.{◌-◌}
-use Rattle.meaning.specs.Text.{run}
-use Rattle.meaning.specs.Name.{name_byte}
 use Rattle.text.proofs.Laws.{running}
 use Rattle.name.proofs.name_run.Goals as goal
 

@@ -1,5 +1,4 @@
 use borrow.Author.Rules.{rules}
-use Prim.Native.Nat.{◌-◌}
 use Rattle.name.proofs.Spelt.{spelling}
 use Rattle.name.proofs.spell.Goals as goal
 

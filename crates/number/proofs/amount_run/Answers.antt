@@ -1,5 +1,4 @@
 use borrow.Author.Rules.{rules}
-use Prim.Native.Nat.{◌-◌}
 use Rattle.number.proofs.Laws.{passing}
 use Rattle.number.proofs.amount_run.Goals as goal
 

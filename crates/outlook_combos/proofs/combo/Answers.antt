@@ -1,5 +1,4 @@
 use borrow.Author.Rules.{rules}
-use Prim.Native.Nat.{◌-◌}
 use Rattle.outlook_combos.proofs.Laws.{choosing}
 use Rattle.outlook_combos.proofs.combo.Goals as goal
 

@@ -1,5 +1,4 @@
 use borrow.Author.Rules.{rules}
-use Prim.Native.Nat.{◌-◌}
 use Rattle.outlook_parts.proofs.Laws.{field_room_lem, value_low, lens_same, filling}
 use Rattle.outlook_parts.proofs.fill.Goals as goal
 

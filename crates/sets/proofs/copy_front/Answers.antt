@@ -1,5 +1,4 @@
 use borrow.Author.Rules.{rules}
-use Prim.Native.Nat.{◌-◌}
 use Rattle.sets.proofs.Laws.{copying}
 use Rattle.sets.proofs.copy_front.Goals as goal
 

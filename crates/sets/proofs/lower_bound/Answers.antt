@@ -1,5 +1,4 @@
 use borrow.Author.Rules.{rules}
-use Prim.Native.Nat.{◌-◌}
 use Rattle.sets.proofs.Laws.{bracketing}
 use Rattle.sets.proofs.lower_bound.Goals as goal
 

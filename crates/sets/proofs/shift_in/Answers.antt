@@ -1,5 +1,4 @@
 use borrow.Author.Rules.{rules}
-use Prim.Native.Nat.{◌-◌}
 use Rattle.sets.proofs.Laws.{shifting}
 use Rattle.sets.proofs.shift_in.Goals as goal
 

@@ -1,5 +1,4 @@
 use borrow.Author.Rules.{rules}
-use Prim.Native.Nat.{◌-◌}
 use Rattle.sheet_events.proofs.Carried.{carrying}
 use Rattle.sheet_events.proofs.is_carried.Goals as goal
 

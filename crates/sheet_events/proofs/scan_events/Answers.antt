@@ -1,5 +1,4 @@
 use borrow.Author.Rules.{rules}
-use Prim.Native.Nat.{◌-◌}
 use Rattle.sheet_events.proofs.Scan.{scanning, scan_end}
 use Rattle.sheet_events.proofs.scan_events.Goals as goal
 

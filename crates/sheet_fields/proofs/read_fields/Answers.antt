@@ -1,5 +1,4 @@
 use borrow.Author.Rules.{rules}
-use Prim.Native.Nat.{◌-◌}
 use Rattle.sheet_fields.proofs.Fields.{fielding}
 use Rattle.sheet_fields.proofs.read_fields.Goals as goal
 

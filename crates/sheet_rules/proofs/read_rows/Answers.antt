@@ -1,6 +1,4 @@
 use borrow.Author.Rules.{rules}
-use Prim.Native.Nat.{◌-◌}
-use lib.ListN.{length}
 use Rattle.sheet_rules.proofs.Scan.{going_start, going_length, going_kept, going_room, rows_next, rows_fits, rows_less, rows_row, rows_over, rows_full, rows_wrong}
 use Rattle.sheet_rules.proofs.read_rows.Goals as goal
 

@@ -1,5 +1,4 @@
 -- The rules are those of the section: at each turn the rest of the section begins at `at`, behind the rules in the table.
-use borrow.Author.Rules.{rules}
 use Prim.Native.Nat.{◌-◌}
 use lib.ListN.{length}
 use Rattle.name.specs.Names.{names_in}

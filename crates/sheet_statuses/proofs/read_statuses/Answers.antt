@@ -1,5 +1,4 @@
 use borrow.Author.Rules.{rules}
-use Prim.Native.Nat.{◌-◌}
 use Rattle.sheet_statuses.proofs.Statuses.{statusing, statuses_room, statuses_end, statuses_byte, statuses_less}
 use Rattle.sheet_statuses.proofs.read_statuses.Goals as goal
 

@@ -1,5 +1,4 @@
 use borrow.Author.Rules.{rules}
-use Prim.Native.Nat.{◌-◌}
 use Rattle.space.proofs.Laws.{texting}
 use Rattle.space.proofs.put_text.Goals as goal
 

@@ -1,5 +1,4 @@
 use borrow.Author.Rules.{rules}
-use Prim.Native.Nat.{◌-◌}
 use Rattle.step_moment.proofs.Laws.{marking}
 use Rattle.step_moment.proofs.mark_parents.Goals as goal
 

@@ -1,5 +1,4 @@
 use borrow.Author.Rules.{rules}
-use Prim.Native.Nat.{◌-◌}
 use Rattle.step_moment.proofs.Laws.{putting}
 use Rattle.step_moment.proofs.put_in.Goals as goal
 

@@ -1,5 +1,4 @@
 use borrow.Author.Rules.{rules}
-use Prim.Native.Nat.{◌-◌}
 use Rattle.step_moment.proofs.Laws.{tasking}
 use Rattle.step_moment.proofs.tasks_started.Goals as goal
 

@@ -1,5 +1,4 @@
 use borrow.Author.Rules.{rules}
-use Prim.Native.Nat.{◌-◌}
 use Rattle.step_plan.proofs.Laws.{row_put, planning}
 use Rattle.step_plan.proofs.plan_tests.Goals as goal
 

@@ -1,5 +1,4 @@
 use borrow.Author.Rules.{rules}
-use Prim.Native.Nat.{◌-◌}
 use Rattle.step_run.proofs.Laws.{not_told_yes, run_done, node_open, rows_over, running}
 use Rattle.step_run.proofs.run_step.Goals as goal
 

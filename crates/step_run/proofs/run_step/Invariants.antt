@@ -5,13 +5,13 @@ use Rattle.step_run.proofs.Laws.{Running, Testing}
 use Rattle.step_run.proofs.run_step.Given as goal
 
 abbrev pub invariant-rows : goal.invariant-rows
-invariant-rows l =    Testing l.words (record { event = l.event; values = l.values; before = l.before }) l.plan l.nodes l.after l.end l.i l.k l.j l.met
+invariant-rows l = Testing l.words (record { event = l.event; values = l.values; before = l.before }) l.plan l.nodes l.after l.end l.i l.k l.j l.met
 
 abbrev pub decreases-rows : goal.decreases-rows
 decreases-rows l = l.end - l.j
 
 abbrev pub invariant-nodes : goal.invariant-nodes
-invariant-nodes l =    Running l.words (record { event = l.event; values = l.values; before = l.before }) l.plan l.nodes l.after l.end l.i
+invariant-nodes l = Running l.words (record { event = l.event; values = l.values; before = l.before }) l.plan l.nodes l.after l.end l.i
 
 abbrev pub decreases-nodes : goal.decreases-nodes
 decreases-nodes l = l.nodes - l.i

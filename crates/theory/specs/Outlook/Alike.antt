@@ -67,7 +67,8 @@ module _ (ts : List Test) (m : Moment) (v w : List Value)
   alike_test k = any_same (holds (filled_with m v) side) (holds (filled_with m w) side) (tests_for ts k) (λ t i. alike_holds t (test_of_lem ts k t i).0)
 
 -- a run reads its test alone
-run_same : (test tesu : List Bool → ℕ → Bool) → ((c : List Bool) (k : ℕ) → test c k ≡ tesu c k) → (o : List ℕ) (c : List Bool) → run_on test o c ≡ run_on tesu o c
+run_same : (test tesu : List Bool → ℕ → Bool) → ((c : List Bool) (k : ℕ) → test c k ≡ tesu c k) → (o : List ℕ) (c : List Bool)
+    → run_on test o c ≡ run_on tesu o c
 unfolding run_on
 run_same test tesu h [] c = refl
 run_same test tesu h (k ∷ o) c = rw (h c k) (run_same test tesu h o (set_if (tesu c k) k c))

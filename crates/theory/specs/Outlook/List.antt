@@ -69,7 +69,8 @@ module _ (ts : List Test) where
           kept zero v e = absurd (missing_number v e)
           kept (suc g) v e = r.kept g v e
 
-          ranged : (g : ℕ) → g < suc (length vs) → get_or (missing ∷ vs) g missing ≡ missing → (v : ℕ) × (v ≤ highest) × (get_or (x ∷ w) g missing ≡ number_at v)
+          ranged : (g : ℕ) → g < suc (length vs) → get_or (missing ∷ vs) g missing ≡ missing
+              → (v : ℕ) × (v ≤ highest) × (get_or (x ∷ w) g missing ≡ number_at v)
           ranged zero l e = lies i
           ranged (suc g) l e = r.ranged g (omega arith) e
   chosen_fills f (number_at u ∷ vs) [] h = absurd h

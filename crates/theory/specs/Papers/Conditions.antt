@@ -82,7 +82,8 @@ module _ (sts fields : List Name) where
       bind_ensures (h l) λ i hi.
       any_ensures (stands (text " and ")) λ more.
       choose_ensures more
-      (bind_ensures (and_good item h m (l + length (leaves_i i))) λ a ha. give_ensures (fine_both (length sts) (length fields) l (leaves_i i) (leaves_a a) hi ha))
+      (bind_ensures (and_good item h m (l + length (leaves_i i))) λ a ha. give_ensures
+      (fine_both (length sts) (length fields) l (leaves_i i) (leaves_a a) hi ha))
       (give_ensures hi)
 
   -- a condition of such items
@@ -94,7 +95,8 @@ module _ (sts fields : List Name) where
       bind_ensures (and_good item h (suc leaf_limit) l) λ a ha.
       any_ensures (stands (text " or ")) λ more.
       choose_ensures more
-      (bind_ensures (cond_good item h m (l + length (leaves_a a))) λ c hc. give_ensures (fine_both (length sts) (length fields) l (leaves_a a) (leaves_c c) ha hc))
+      (bind_ensures (cond_good item h m (l + length (leaves_a a))) λ c hc. give_ensures
+      (fine_both (length sts) (length fields) l (leaves_a a) (leaves_c c) ha hc))
       (give_ensures ha)
 
   -- an item, over what stands behind `not ` and `(`

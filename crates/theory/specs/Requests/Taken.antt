@@ -133,7 +133,8 @@ module _ (s c e : List ℕ) (room : ℕ) where
 
   pub outlook_circle : (sh : Sheet) → paper 1 sheet_bytes sheet s ≡ taken sh → (outlook_answer s c e room ≡ refused CYCLE 1 0) ↔ Cycle (predecessors (tests sh))
   unfolding outlook_answer
-  outlook_circle sh q = Iff.trans (sheet_names (λ k. on_taken (outlook k) (λ l. fitting (λ l. l) room l)) (outlook_own room) s c e CYCLE 0) (told_exactly s sh q)
+  outlook_circle sh q = Iff.trans (sheet_names (λ k. on_taken (outlook k) (λ l. fitting (λ l. l) room l)) (outlook_own room) s c e CYCLE 0)
+      (told_exactly s sh q)
 
   -- THE REASONS
 

@@ -104,7 +104,8 @@ side_past (b ∷ bs) f (suc x) h = side_past bs (λ k. f (suc (suc k))) x (omega
 side_by : (before c : List Bool) (f : ℕ → Bool) → length c ≡ length before
     → ((x : ℕ) → x < length before → is c x ≡ cond (is before x) (not (f (down x))) (f (up x))) → c ≡ side_of before f
 side_by before c f l h =
-    ext_get_or false c (side_of before f) (l ∙ sym (side_length before f)) (λ x i. let j : x < length before = omega arith in h x j ∙ sym (side_at before f x j))
+    ext_get_or false c (side_of before f) (l ∙ sym (side_length before f))
+    (λ x i. let j : x < length before = omega arith in h x j ∙ sym (side_at before f x j))
 
 -- where nothing changes, the side is that before
 pub side_none : (before : List Bool) → before ≡ side_of before (λ k. false)

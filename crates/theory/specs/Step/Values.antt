@@ -24,12 +24,14 @@ module _ (R : Kleene → Kleene → Type 0) (kept : Kept R) (st su : ℕ → Kle
     pub value_kept : (c : Cond) → AtLeaves (leaves_c c) → R (value_c st fd c) (value_c su fe c)
     value_kept (Cond.only a) h = and_kept a h
     value_kept (Cond.or a c) h =
-        kept.by_or _ _ _ _ (and_kept a (λ x i. h x (in_left x (leaves_a a) (leaves_c c) i))) (value_kept c (λ x i. h x (in_right x (leaves_a a) (leaves_c c) i)))
+        kept.by_or _ _ _ _ (and_kept a (λ x i. h x (in_left x (leaves_a a) (leaves_c c) i)))
+        (value_kept c (λ x i. h x (in_right x (leaves_a a) (leaves_c c) i)))
 
     and_kept : (a : And) → AtLeaves (leaves_a a) → R (value_a st fd a) (value_a su fe a)
     and_kept (And.just i) h = item_kept i h
     and_kept (And.and i a) h =
-        kept.by_and _ _ _ _ (item_kept i (λ x j. h x (in_left x (leaves_i i) (leaves_a a) j))) (and_kept a (λ x j. h x (in_right x (leaves_i i) (leaves_a a) j)))
+        kept.by_and _ _ _ _ (item_kept i (λ x j. h x (in_left x (leaves_i i) (leaves_a a) j)))
+        (and_kept a (λ x j. h x (in_right x (leaves_i i) (leaves_a a) j)))
 
     item_kept : (i : Item) → AtLeaves (leaves_i i) → R (value_i st fd i) (value_i su fe i)
     item_kept (Item.leaf x) h = h x (inl refl)

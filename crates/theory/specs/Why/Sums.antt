@@ -67,7 +67,8 @@ status_part v i k e [] = omega arith
 status_part v i k e (t ∷ ts) = go (eqb t.node k) refl (status_part v i k e ts)
   where
     go : (b : Bool) → eqb t.node k ≡ b → total v (tests_for ts k) + total (since_of v (suc i)) ts ≤ total (since_of v i) ts
-        → total v (elim b [ true ↦ t ∷ tests_for ts k | false ↦ tests_for ts k ]) + (since_of v (suc i) t + total (since_of v (suc i)) ts) ≤ since_of v i t + total
+        → total v (elim b [ true ↦ t ∷ tests_for ts k | false ↦ tests_for ts k ]) + (since_of v (suc i) t + total (since_of v (suc i)) ts) ≤ since_of v i t
+        + total
         (since_of v i) ts
     go true q h =
         let z : t.node / 2 ≡ i = ap (λ n. n / 2) (eqb-true t.node k q) ∙ e in
@@ -87,5 +88,6 @@ since_all v [] = refl
 since_all v (t ∷ ts) = rw (le-leb 0 (t.node / 2) (omega arith)) (ap (λ n. v t + n) (since_all v ts))
 
 -- of all statuses
-pub counted_once : (v : Test → ℕ) (ts : List Test) (before : List Bool) (n : ℕ) → total (λ x. total v (tests_for ts (change_of before x))) (from 0 n) ≤ total v ts
+pub counted_once : (v : Test → ℕ) (ts : List Test) (before : List Bool) (n : ℕ)
+    → total (λ x. total v (tests_for ts (change_of before x))) (from 0 n) ≤ total v ts
 counted_once v ts before n = omega (arith, statuses_part v ts (change_of before) (λ x. let (l, g) = change_near before x in omega arith) n 0, since_all v ts)

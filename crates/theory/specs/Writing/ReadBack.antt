@@ -169,7 +169,8 @@ module _ (hd : Heads) (well : WellHeads hd) where
       marks_again : (l : ℕ) (t : List ℕ)
           → (k : ℕ) × (each (λ m. ended (status_mark m)) (status_names (statuses hd)) l (lines mark (status_names (statuses hd)) bs ++ t) ≡ got bs k t)
       marks_again =
-          lines_again mark (λ m. ended (status_mark m)) (status_names (statuses hd)) bs (marked ∙ sym names_length) (λ m x v y. status_line_lem m v (names_good m x))
+          lines_again mark (λ m. ended (status_mark m)) (status_names (statuses hd)) bs (marked ∙ sym names_length)
+          (λ m x v y. status_line_lem m v (names_good m x))
 
       -- the card is read back
       card_lines : (l : ℕ) → (k : ℕ) × (card hd l (card_text hd es bs) ≡ got (record { entries = es; statuses = bs }) k [])

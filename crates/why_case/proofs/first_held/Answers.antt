@@ -1,5 +1,4 @@
 use borrow.Author.Rules.{rules}
-use Prim.Native.Nat.{◌-◌}
 use Rattle.why_case.proofs.Laws.{seeking}
 use Rattle.why_case.proofs.first_held.Goals as goal
 

@@ -1,5 +1,4 @@
 use borrow.Author.Rules.{rules}
-use Prim.Native.Nat.{◌-◌}
 use Rattle.why_case.proofs.Laws.{listing}
 use Rattle.why_case.proofs.put_all.Goals as goal
 

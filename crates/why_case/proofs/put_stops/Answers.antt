@@ -1,5 +1,4 @@
 use borrow.Author.Rules.{rules}
-use Prim.Native.Nat.{◌-◌}
 use Rattle.why_case.proofs.Laws.{stopping}
 use Rattle.why_case.proofs.put_stops.Goals as goal
 

@@ -1,5 +1,4 @@
 use borrow.Author.Rules.{rules}
-use Prim.Native.Nat.{◌-◌}
 use Rattle.why_case.proofs.Laws.{spanning}
 use Rattle.why_case.proofs.row_spans.Goals as goal
 

@@ -1,5 +1,4 @@
 use borrow.Author.Rules.{rules}
-use Prim.Native.Nat.{◌-◌}
 use Rattle.why_case.proofs.Laws.{telling}
 use Rattle.why_case.proofs.tell_rows.Goals as goal
 
