@@ -2,48 +2,51 @@
 // request tells.
 #![tactic(auto)]
 
+ghost use Rattle.std.specs.Prelude.{◌≤◌, length};
+ghost use Rattle.desk_rooms.specs.Rooms.{why_room, card_room, named_room, check_room};
+
 use std::alloc::{AllocError, Global};
-use std::env::Env;
+use std::env::Env as _;
 use std::io::Read;
 
-// Prints why each status changed, or did not. A closed output does no harm.
-fn tell_why(rt: &(impl Print + AllocGlobal), input: &[u8]) -> Result<(), AllocError> {
-    let mut out = vec![in rt.alloc(); 0u8; desk_rooms::WHY]?;
-    let n = clerk_why::why_output(input, &mut out);
+// Prints why each status changed, or did not, by way of this space. A closed output does no harm.
+fn tell_why(rt: &impl Print, input: &[u8], out: &mut [u8])
+    requires { why_room ≤ length out.old }
+{
+    let n = clerk_why::why_output(input, out);
     let _ = rt.write_all(&out[..n]);
-    Ok(())
 }
 
 // Prints the next card.
-fn tell_card(rt: &(impl Print + AllocGlobal), input: &[u8]) -> Result<(), AllocError> {
-    let mut out = vec![in rt.alloc(); 0u8; desk_rooms::CARD]?;
-    let n = clerk_card::card_output(input, &mut out);
+fn tell_card(rt: &impl Print, input: &[u8], out: &mut [u8])
+    requires { card_room ≤ length out.old }
+{
+    let n = clerk_card::card_output(input, out);
     let _ = rt.write_all(&out[..n]);
-    Ok(())
 }
 
 // Prints what may still come, in names.
-fn tell_outlook(rt: &(impl Print + AllocGlobal), input: &[u8]) -> Result<(), AllocError> {
-    let mut out = vec![in rt.alloc(); 0u8; desk_rooms::NAMED]?;
-    let n = clerk_outlook::outlook_output(input, &mut out);
+fn tell_outlook(rt: &impl Print, input: &[u8], out: &mut [u8])
+    requires { named_room ≤ length out.old }
+{
+    let n = clerk_outlook::outlook_output(input, out);
     let _ = rt.write_all(&out[..n]);
-    Ok(())
 }
 
 // Prints what a sheet holds, or where its circle is.
-fn tell_check(rt: &(impl Print + AllocGlobal), input: &[u8]) -> Result<(), AllocError> {
-    let mut out = vec![in rt.alloc(); 0u8; desk_rooms::CHECK]?;
-    let n = clerk_check::check_output(input, &mut out);
+fn tell_check(rt: &impl Print, input: &[u8], out: &mut [u8])
+    requires { check_room ≤ length out.old }
+{
+    let n = clerk_check::check_output(input, out);
     let _ = rt.write_all(&out[..n]);
-    Ok(())
 }
 
 // Prints a sheet's card with nothing known yet.
-fn tell_blank(rt: &(impl Print + AllocGlobal), input: &[u8]) -> Result<(), AllocError> {
-    let mut out = vec![in rt.alloc(); 0u8; desk_rooms::CARD]?;
-    let n = clerk_check::blank_output(input, &mut out);
+fn tell_blank(rt: &impl Print, input: &[u8], out: &mut [u8])
+    requires { card_room ≤ length out.old }
+{
+    let n = clerk_check::blank_output(input, out);
     let _ = rt.write_all(&out[..n]);
-    Ok(())
 }
 
 // The whole input, or its first `most` bytes. A read that fails ends it. There is room for more before the first one, so that none fails for
@@ -57,28 +60,38 @@ fn read_up_to(alloc: Global, reader: impl Read + Drop, most: usize) -> Result<Ve
 // The requests for three papers. One byte more than is taken is read, so that a longer input is told as LONG.
 fn why(rt: &(impl Input + Print + AllocGlobal)) -> Result<(), AllocError> {
     let input = read_up_to(rt.alloc(), rt.reader(), limits::DESK_BYTES + 1)?;
-    tell_why(rt, &input)
+    let mut out = vec![in rt.alloc(); 0u8; desk_rooms::WHY]?;
+    tell_why(rt, &input, &mut out);
+    Ok(())
 }
 
 fn card(rt: &(impl Input + Print + AllocGlobal)) -> Result<(), AllocError> {
     let input = read_up_to(rt.alloc(), rt.reader(), limits::DESK_BYTES + 1)?;
-    tell_card(rt, &input)
+    let mut out = vec![in rt.alloc(); 0u8; desk_rooms::CARD]?;
+    tell_card(rt, &input, &mut out);
+    Ok(())
 }
 
 fn outlook(rt: &(impl Input + Print + AllocGlobal)) -> Result<(), AllocError> {
     let input = read_up_to(rt.alloc(), rt.reader(), limits::DESK_BYTES + 1)?;
-    tell_outlook(rt, &input)
+    let mut out = vec![in rt.alloc(); 0u8; desk_rooms::NAMED]?;
+    tell_outlook(rt, &input, &mut out);
+    Ok(())
 }
 
 // Those for a sheet alone, likewise.
 fn check(rt: &(impl Input + Print + AllocGlobal)) -> Result<(), AllocError> {
     let input = read_up_to(rt.alloc(), rt.reader(), limits::SHEET_BYTES + 1)?;
-    tell_check(rt, &input)
+    let mut out = vec![in rt.alloc(); 0u8; desk_rooms::CHECK]?;
+    tell_check(rt, &input, &mut out);
+    Ok(())
 }
 
 fn blank(rt: &(impl Input + Print + AllocGlobal)) -> Result<(), AllocError> {
     let input = read_up_to(rt.alloc(), rt.reader(), limits::SHEET_BYTES + 1)?;
-    tell_blank(rt, &input)
+    let mut out = vec![in rt.alloc(); 0u8; desk_rooms::CARD]?;
+    tell_blank(rt, &input, &mut out);
+    Ok(())
 }
 
 // What there is, a line for each word.

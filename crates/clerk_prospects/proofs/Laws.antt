@@ -22,6 +22,7 @@ use Rattle.name.specs.declared.Name.{Name as Kept}
 use Rattle.name.specs.Names.{name_of, names_in, name_at, table_words, part_of}
 use Rattle.name.proofs.Tables.{name_at_lem, part_names, part_length}
 use Rattle.sheet_tables.specs.declared.Heads.{Heads}
+use Rattle.sheet_tables.proofs.Names.{statuses_held}
 use Rattle.sheet_tables.specs.Heads.{names_at, Sized}
 use Rattle.theory.specs.Writing.Lent.{Wrote, Left, left_start, left_end, left_room, left_more, wrote_none, first_room, second_room, both_written}
 use Rattle.desk_print.proofs.Laws.{listing_room}

@@ -1,17 +1,20 @@
 // Runs what the desk program runs over every file that the arguments name, and prints the file's name and what comes of it.
 #![tactic(auto)]
 
+ghost use Rattle.std.specs.Prelude.{◌≤◌, length};
+ghost use Rattle.desk_rooms.specs.Rooms.{desk_room};
+
 use std::alloc::{AllocError, Global};
 use std::io::Read;
 use std::rt::Files;
 use std::{env, fs, io};
 
-// Prints what comes of the whole input.
-fn answer(rt: &(impl Print + AllocGlobal), input: &[u8]) -> Result<(), AllocError> {
-    let mut out = vec![in rt.alloc(); 0u8; desk_rooms::DESK]?;
-    let n = desk_output::desk_output(input, &mut out);
+// Prints what comes of the whole input, by way of this space.
+fn answer(rt: &impl Print, input: &[u8], out: &mut [u8])
+    requires { desk_room ≤ length out.old }
+{
+    let n = desk_output::desk_output(input, out);
     let _ = rt.write_all(&out[..n]);
-    Ok(())
 }
 
 // The whole file, or its first `most` bytes. A read that fails ends it. There is room for more before the first one, so that none fails for
@@ -32,8 +35,10 @@ fn file(rt: &(impl Files + Print + Eprint + AllocGlobal), path: &str) -> Result<
         }
     };
     let input = read_up_to(rt.alloc(), opened, limits::DESK_BYTES + 1)?;
+    let mut out = vec![in rt.alloc(); 0u8; desk_rooms::DESK]?;
     let _ = rt.println(path);
-    answer(rt, &input)
+    answer(rt, &input, &mut out);
+    Ok(())
 }
 
 fn main(rt: HostRuntime) -> io::Result<()> {

@@ -1,0 +1,6 @@
+-- The output lies in the space that it is put into.
+use Rattle.clerk_card.proofs.Callers.{printing}
+use Rattle.clerk.proofs.tell_card.Goals as goal
+
+pub slice_bounds-write_all-end : goal.slice_bounds-write_all-end
+slice_bounds-write_all-end g c = search printing
