@@ -1,4 +1,6 @@
 // Card and event line of a case as tables: values, where their texts stand, and marks.
+#![tactic(auto)]
+
 ghost use Rattle.std.specs.Prelude.{◌≡◌};
 
 // A card: of each field its value's code and where its text stands; of each status its mark.

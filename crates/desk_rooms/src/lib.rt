@@ -1,4 +1,5 @@
 // How much space a caller lends for what is printed, by names; each size is made of the limits that it follows from, and what is printed is proved to fit it.
+#![tactic(auto)]
 
 // A line of the outlook at its longest: `outlook=`, ten digits and LF.
 pub const PATTERN_LINE: usize = 19;

@@ -1,4 +1,5 @@
 // Every limit of the document by its name, as `specs/Limits.antt` of the meaning has them, and the sizes of the tables that follow.
+#![tactic(auto)]
 
 // How many bytes a sheet, a card, an event line and the desk's input may have.
 pub const SHEET_BYTES: usize = 32768;

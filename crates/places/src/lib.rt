@@ -1,4 +1,6 @@
 // Small numbers as places of tables, and the lower of two.
+#![tactic(auto)]
+
 ghost use Rattle.std.specs.Prelude.{◌≡◌, ◌<◌, min};
 
 // A byte as a place. Its bound keeps the nodes of a status from overflowing.

@@ -1,4 +1,6 @@
 // What a request returns: the refusal numbers of the document, and the numbers of a reply.
+#![tactic(auto)]
+
 ghost use Rattle.std.specs.Prelude.{◌≡◌};
 ghost use Rattle.reply.specs.Answers.{refused_reply};
 
