@@ -31,8 +31,18 @@ OTHERS = {
     "bit-or": "bit_or_lem",
     "bit-xor": "bit_xor_lem",
     "put-mid": "put_mid_lem",
+    # another has the name
+    "flat-room": "flat_wide",
+    "so-far": "read_so_far",
 }
 
+
+# Constructors and parameters, which no line of their own declares.
+BOUND = """
+by-held by-parent c-is c-same card-told condition-false condition-unknown e-is event-told few-tests flat-room flat-was h-is h-same home-not-open in-
+run lens-was m-is namedLeaf none-joining none-there not-due of-missing old-is order-at p-is paper-is plan-is rest-2 rules-are so-far sum-2 t-is
+trigger-not-met zero-i
+""".split()
 
 # Names of ours that are std's too, and stay as std spells them.
 STD = {"sub-zero", "zero-sub"}
@@ -84,6 +94,8 @@ def names():
             m = DECLARED.match(line)
             if m:
                 declared.setdefault(m.group(1), f"{path}:{n}")
+    for name in BOUND:
+        declared.setdefault(name, "bound")
     source = set()
     for path in files(".rt"):
         with open(path, encoding="utf-8") as f:

@@ -88,13 +88,13 @@ module _ (d : Name) (t : List ℕ) (p : Bytes) (key : p ≡ as_bytes t (due LINE
       pub case_room : length t < 2 ^ 64 → Fits w64 j
       case_room h = omega (arith, case_named.within)
 
-      module _ (x : List ℕ) (y : Bytes) (rest-2 : x ≡ drop j t) (mark : y ≡ as_bytes x (line_end LINE 0 x)) where
+      module _ (x : List ℕ) (y : Bytes) (rest_2 : x ≡ drop j t) (mark : y ≡ as_bytes x (line_end LINE 0 x)) where
         pub case_unended : (i : ℕ) → y ≡ B.Refused i → y ≡ as_bytes t (case_line d 0 t)
-        case_unended i g = g ∙ rw (bytes_off (line_ends line_fault) _ case_named x rest-2 y mark i g)
+        case_unended i g = g ∙ rw (bytes_off (line_ends line_fault) _ case_named x rest_2 y mark i g)
 
-        module _ (i : ℕ) (g : y ≡ B.Read i) (h : ℕ) (sum-2 : h ≡ j + i) where
+        module _ (i : ℕ) (g : y ≡ B.Read i) (h : ℕ) (sum_2 : h ≡ j + i) where
           case_end : Left (case_line d 0 t) (give tt) 1 h t
-          case_end = (bytes_on (line_ends line_fault) _ case_named x rest-2 y mark i h g sum-2).1
+          case_end = (bytes_on (line_ends line_fault) _ case_named x rest_2 y mark i h g sum_2).1
 
           pub case_room_2 : length t < 2 ^ 64 → Fits w64 h
           case_room_2 s = omega (arith, case_end.within)
@@ -205,13 +205,13 @@ module _ (d : Name) (t : List ℕ) (p : Bytes) (name : p ≡ as_bytes t (keyed d
       pub mark_room : length t < 2 ^ 64 → Fits w64 j
       mark_room h = omega (arith, mark_next.left.within)
 
-      module _ (x : List ℕ) (y : Bytes) (rest-2 : x ≡ drop j t) (mark : y ≡ as_bytes x (line_end LINE 0 x)) where
+      module _ (x : List ℕ) (y : Bytes) (rest_2 : x ≡ drop j t) (mark : y ≡ as_bytes x (line_end LINE 0 x)) where
         pub mark_unended : (i f : ℕ) → y ≡ B.Refused i → f ≡ bytes_fault y → M.Refused f ≡ as_mark t (ended (status_mark d) 0 t)
-        mark_unended i f g z = rw (z, g, bytes_off (line_ends line_fault) _ mark_next.left x (rw (← sum) rest-2) y mark i g)
+        mark_unended i f g z = rw (z, g, bytes_off (line_ends line_fault) _ mark_next.left x (rw (← sum) rest_2) y mark i g)
 
-        module _ (i : ℕ) (g : y ≡ B.Read i) (h : ℕ) (sum-2 : h ≡ j + i) where
+        module _ (i : ℕ) (g : y ≡ B.Read i) (h : ℕ) (sum_2 : h ≡ j + i) where
           mark_end : Left (ended (status_mark d) 0 t) (give mark_next.value) 1 h t
-          mark_end = (bytes_on (line_ends line_fault) _ mark_next.left x (rw (← sum) rest-2) y mark i h g (omega arith)).1
+          mark_end = (bytes_on (line_ends line_fault) _ mark_next.left x (rw (← sum) rest_2) y mark i h g (omega arith)).1
 
           pub mark_room_2 : length t < 2 ^ 64 → Fits w64 h
           mark_room_2 s = omega (arith, mark_end.within)

@@ -181,10 +181,10 @@ module _ (hd : Heads) (well : WellHeads hd) (sc se : List ℕ) (mc : M.Card) (mh
             (omega (arith, card_in.entries))
             ∙ ap (λ (e : Entry). e.shown) (sym (put_kept d f mh.puts mc.entries q))
 
-  module _ (c : Card) (e : Happening) (c-is : c ≡ as_card hd mc) (e-is : e ≡ as_happening hd mh) where
+  module _ (c : Card) (e : Happening) (c_is : c ≡ as_card hd mc) (e_is : e ≡ as_happening hd mh) where
     -- the text of a field is that of its entry after the event
     pub value_after : (d : Entry) (f : ℕ) → f < length hd.fields → value_text se sc e c f ≡ (get_or (put_in mh.puts mc.entries) f d).shown
-    value_after d f h = rw (c-is, e-is) (value_is d f h)
+    value_after d f h = rw (c_is, e_is) (value_is d f h)
 
     -- and the next card is that of the meaning
     pub next_after : (after : List Bool) → length after ≡ length (statuses hd)

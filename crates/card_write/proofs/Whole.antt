@@ -207,7 +207,7 @@ module _ (h : Heads) (sized : Sized h) (long : length (names_in h.names) ≡ nam
         few,
       )
 
-  module _ (p : List ℕ) (p-is : p ≡ part_of h.names 0 h.fields) (a n : ℕ) (start : a ≡ h.fields + h.events) (count : n ≡ h.stages + h.miles)
+  module _ (p : List ℕ) (p_is : p ≡ part_of h.names 0 h.fields) (a n : ℕ) (start : a ≡ h.fields + h.events) (count : n ≡ h.stages + h.miles)
       (q : List ℕ) (q-is : q ≡ part_of h.names a n) where
     abbrev head : List ℕ
     head = head_text (name_of h.model) (names_in p) event card e c
@@ -219,7 +219,7 @@ module _ (h : Heads) (sized : Sized h) (long : length (names_in h.names) ≡ nam
     unfolding next_text card_text head_text tail_text
     next_is =
         rw (
-          fields_part h sized long p p-is,
+          fields_part h sized long p p_is,
           marks_part h sized long q a n start count q-is,
           fields_lined (value_text event card e c),
           count_is,

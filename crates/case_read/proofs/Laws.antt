@@ -52,17 +52,17 @@ module _ (s c e : List ℕ) (x : Accepted) (sheet_told_lem : x ≡ as_accepted (
     same_heads : said ≡ hd
     same_heads = accept_heads s x sheet_told_lem zero
 
-    module _ (g : CardRead) (card-told : g ≡ as_card_read (heads_of x.heads) (read_card (heads_of x.heads) c)) where
+    module _ (g : CardRead) (card_told : g ≡ as_card_read (heads_of x.heads) (read_card (heads_of x.heads) c)) where
       card_is : g ≡ as_card_read hd (read_card hd c)
-      card_is = card-told ∙ ap (λ hd. as_card_read hd (read_card hd c)) same_heads
+      card_is = card_told ∙ ap (λ hd. as_card_read hd (read_card hd c)) same_heads
 
       pub case_card : (g.number ≡ 0 → ⊥) → (q : Case) → q ≡ refused_case g.number 2 g.line → q ≡ as_case (read_case s c e)
       unfolding read_case read_told
       case_card z q f = f ∙ sym (rw ((accept_read s x sheet_told_lem zero).same, card_refused hd c g card_is z))
 
-      module _ (read : g.number ≡ 0) (h : EventRead) (event-told : h ≡ as_event_read (heads_of x.heads) (read_event (heads_of x.heads) e)) where
+      module _ (read : g.number ≡ 0) (h : EventRead) (event_told : h ≡ as_event_read (heads_of x.heads) (read_event (heads_of x.heads) e)) where
         event_is : h ≡ as_event_read hd (read_event hd e)
-        event_is = event-told ∙ ap (λ hd. as_event_read hd (read_event hd e)) same_heads
+        event_is = event_told ∙ ap (λ hd. as_event_read hd (read_event hd e)) same_heads
 
         pub case_event : (h.number ≡ 0 → ⊥) → (q : Case) → q ≡ refused_case h.number 3 h.line → q ≡ as_case (read_case s c e)
         unfolding read_case read_told
@@ -73,9 +73,9 @@ module _ (s c e : List ℕ) (x : Accepted) (sheet_told_lem : x ≡ as_accepted (
         unfolding read_case read_told
         case_all z =
             let a = accept_read s x sheet_told_lem zero in
-            let (mc, c-same, c-is) = card_taken hd c g card_is read in
-            let (mh, h-same, h-is) = event_taken hd e h event_is z in
-            made x g.card h.happening (record { sheet = a.sheet.sheet; order = a.sheet.order; card = mc; happening = mh }) a.is c-is h-is ∙ sym
-            (rw (a.same, c-same, h-same))
+            let (mc, c_same, c_is) = card_taken hd c g card_is read in
+            let (mh, h_same, h_is) = event_taken hd e h event_is z in
+            made x g.card h.happening (record { sheet = a.sheet.sheet; order = a.sheet.order; card = mc; happening = mh }) a.is c_is h_is ∙ sym
+            (rw (a.same, c_same, h_same))
 
 pub ruleset reading = (case_sheet, case_sized, case_card, case_event, case_all)

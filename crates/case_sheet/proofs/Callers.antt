@@ -51,8 +51,8 @@ module _ (s : List ℕ) (r : Accepted) (told : r ≡ as_accepted (read_sheet s))
       go (taken a) e = absurd (z (ap (λ (r : Accepted). r.number) (told ∙ ap as_accepted e)))
       go (refused n p l) e =
           let q : r ≡ refused_sheet n l = told ∙ ap as_accepted e in
-          let paper-is : p ≡ 1 = ((sheet_tells s).told n p l e).2 in
-          rw (q, ← paper-is) e
+          let paper_is : p ≡ 1 = ((sheet_tells s).told n p l e).2 in
+          rw (q, ← paper_is) e
 
   module _ (zero : r.number ≡ 0) where
     -- the tables are sized, and stand for what stands above its rules

@@ -174,13 +174,13 @@ module _ (s : List ℕ) (r : SheetRead) (told : r ≡ as_sheet_read (paper 1 she
         accept_taken z n double p f =
             let u = take (nodes up.sh.heads) o.order in
             let some_is : testing_order up.sh ≡ some u = order_some up.sh o order (not-false o.found z) in
-            let order-at : o.order ≡ padded node_room 0 u = ap (λ (o : Sorting). o.order) (order ∙ ap as_sorting some_is) in
+            let order_at : o.order ≡ padded node_room 0 u = ap (λ (o : Sorting). o.order) (order ∙ ap as_sorting some_is) in
             let count : n ≡ length u = double ∙ ap (λ k. k * 2) (sum ∙ sum_is) ∙ sym (order_long up.sh u some_is) in
-            let plan-is : p ≡ plan_for (rows_of up.sh) u = f
+            let plan_is : p ≡ plan_for (rows_of up.sh) u = f
             ∙ ap (λ rows. as_plan rows o.order n) (ap (λ (t : Tests). take t.count t.rows) (tests_told t made_of) ∙ tests_taken (rows_of up.sh))
-            ∙ ap₂ (as_plan (rows_of up.sh)) order-at count in
+            ∙ ap₂ (as_plan (rows_of up.sh)) order_at count in
             made r.heads w r.rules.top p (record { sheet = up.sh; order = u })
-            (ap (λ (r : SheetRead). r.heads) up.same) (words_are w put) (ap (λ (r : SheetRead). r.rules.top) up.same) plan-is
+            (ap (λ (r : SheetRead). r.heads) up.same) (words_are w put) (ap (λ (r : SheetRead). r.rules.top) up.same) plan_is
             ∙ sym (rw (up.is, some_is))
 
 pub ruleset accepting =

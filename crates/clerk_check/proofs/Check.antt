@@ -46,8 +46,8 @@ module _ (s : List ℕ) (r : SheetRead) (told : r ≡ as_sheet_read (paper 1 she
       go (taken sh) e = absurd (z (ap (λ (r : SheetRead). r.number) (told ∙ ap as_sheet_read e)))
       go (refused n p l) e =
           let is : r ≡ refused_sheet n l = told ∙ ap as_sheet_read e in
-          let paper-is : p ≡ 1 = ((sheet_tells s).told n p l (rw e)).2 in
-          e ∙ ap (λ p. refused n p l) paper-is ∙ ap (λ (r : SheetRead). refused r.number 1 r.line) (sym is)
+          let paper_is : p ≡ 1 = ((sheet_tells s).told n p l (rw e)).2 in
+          e ∙ ap (λ p. refused n p l) paper_is ∙ ap (λ (r : SheetRead). refused r.number 1 r.line) (sym is)
 
   pub check_wrong : (r.number ≡ 0 → ⊥) → (o o1 : List ℕ) (q : ℕ) → Wrote 0 (refusal_text r.number 1 r.line) o o1 q → Front (check_output s) q o o1
   unfolding check_output check_printed

@@ -14,7 +14,7 @@ use Rattle.meaning.specs.Text.{text, In, joined}
 use Rattle.meaning.specs.Card.{is}
 use Rattle.meaning.specs.Sheet as M
 use Rattle.meaning.specs.Sheet.{status_names, statuses, event_names, all_names, stage_over}
-use Rattle.meaning.specs.Why.{trigger-not-met, home-not-open, condition-false, condition-unknown, Kind, held, closed, stopped, kind_number, Reason, coded}
+use Rattle.meaning.specs.Why.{trigger_not_met, home_not_open, condition_false, condition_unknown, Kind, held, closed, stopped, kind_number, Reason, coded}
 use Rattle.meaning.specs.Clerk.{line_at, status_name, over_name, change_sign, rule_told, parent_told, kind_told, why_line}
 use Rattle.meaning.specs.Doors.{Case}
 use Rattle.theory.specs.Lists.Members.{joined_same, joined_map}
@@ -108,10 +108,10 @@ module _ (hd : M.Heads) (w : WellHeads hd) where
     unfolding kind_of
     told_is x l held h g = rule_is x l held h g refl
     told_is x l closed h g = ap parent_told (over_is x)
-    told_is x l (stopped trigger-not-met) h g = rule_is x l (stopped trigger-not-met) h g refl
-    told_is x l (stopped home-not-open) h g = rule_is x l (stopped home-not-open) h g refl
-    told_is x l (stopped condition-false) h g = rule_is x l (stopped condition-false) h g refl
-    told_is x l (stopped condition-unknown) h g = rule_is x l (stopped condition-unknown) h g refl
+    told_is x l (stopped trigger_not_met) h g = rule_is x l (stopped trigger_not_met) h g refl
+    told_is x l (stopped home_not_open) h g = rule_is x l (stopped home_not_open) h g refl
+    told_is x l (stopped condition_false) h g = rule_is x l (stopped condition_false) h g refl
+    told_is x l (stopped condition_unknown) h g = rule_is x l (stopped condition_unknown) h g refl
 
     -- the line of a reason; the mark tells whether the status was yes
     reason_is : (marks : List ℕ) (before : List Bool) (r : Reason) → ReadBack (length (statuses hd)) r → yes_at marks r.status ≡ is before r.status

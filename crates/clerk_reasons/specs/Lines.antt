@@ -4,7 +4,7 @@ use Rattle.meaning.specs.Limits.{status_limit}
 use Rattle.meaning.specs.Text.{text, joined}
 use Rattle.meaning.specs.Number.{decimal}
 use Rattle.meaning.specs.Desk.{line_length}
-use Rattle.meaning.specs.Why.{trigger-not-met, home-not-open, condition-false, condition-unknown, Kind, held, closed, stopped}
+use Rattle.meaning.specs.Why.{trigger_not_met, home_not_open, condition_false, condition_unknown, Kind, held, closed, stopped}
 use Rattle.meaning.specs.Clerk.{kind_words, change_sign, parent_told}
 use Rattle.marks.specs.Codes.{is_yes}
 use Rattle.name.specs.declared.Name.{Name as Kept}
@@ -17,9 +17,9 @@ unfoldable pub kind_of : ℕ → Kind
 kind_of n =
     cond (eqb n 1) held
     (cond (eqb n 2) closed
-    (cond (eqb n 3) (stopped trigger-not-met)
-    (cond (eqb n 4) (stopped home-not-open)
-    (cond (eqb n 5) (stopped condition-false) (stopped condition-unknown)))))
+    (cond (eqb n 3) (stopped trigger_not_met)
+    (cond (eqb n 4) (stopped home_not_open)
+    (cond (eqb n 5) (stopped condition_false) (stopped condition_unknown)))))
 
 -- the name of a status, as it is kept
 abbrev pub kept_of : Heads → ℕ → Kept

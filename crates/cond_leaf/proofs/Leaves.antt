@@ -19,7 +19,7 @@ use Rattle.meaning.specs.Name.{name}
 use Rattle.meaning.specs.Number.{number}
 use Rattle.meaning.specs.Condition.{Operator, below, at_most, equal, at_least, above}
 use Rattle.meaning.specs.ReadCondition.{operator, read_leaf}
-use Rattle.meaning.specs.ReadCondition.{named as namedLeaf}
+use Rattle.meaning.specs.ReadCondition.{named as named_leaf}
 use Rattle.theory.specs.Reading.BuiltPapers.{operator_built}
 use Rattle.theory.specs.Reading.Told.{Told, Any, took, inline_told, not_ended_none, not_ended_some}
 use Rattle.text.proofs.Callers.{begins_fits, stands_here, stands_not}
@@ -214,18 +214,18 @@ module _ (neg : Bool) (s : List ℕ) (at : ℕ) (h : at ≤ length s) (w : Kept)
   in_fields : f ≡ found_in w (kept_in fd)
   in_fields = is ∙ rw (whole fd m all)
 
-  pub field_none : f ≡ F.Nothing → L.Refused NAME ≡ as_leaf neg s (namedLeaf leaves none (place_of (found_in w (kept_in fd))) 0 (drop at s))
+  pub field_none : f ≡ F.Nothing → L.Refused NAME ≡ as_leaf neg s (named_leaf leaves none (place_of (found_in w (kept_in fd))) 0 (drop at s))
   field_none e = sym (rw (← in_fields, e))
 
   module _ (i : ℕ) (e : f ≡ F.At i) where
     pub field_small : length (names_in fd) ≤ field_limit → i < 32
     field_small g = let z = found_within (same_kept w) (kept_in fd) i (sym in_fields ∙ e) in omega (arith, kept_count fd)
 
-    pub field_full : leaf_limit ≤ leaves → L.Refused FULL ≡ as_leaf neg s (namedLeaf leaves none (place_of (found_in w (kept_in fd))) 0 (drop at s))
+    pub field_full : leaf_limit ≤ leaves → L.Refused FULL ≡ as_leaf neg s (named_leaf leaves none (place_of (found_in w (kept_in fd))) 0 (drop at s))
     field_full g = sym (rw (← in_fields, e, le-ltb leaves leaf_limit g))
 
     pub field_good : leaves < leaf_limit → (r : LeafRead) → r ≡ as_leaf neg s (comparison i 0 (drop at s))
-        → r ≡ as_leaf neg s (namedLeaf leaves none (place_of (found_in w (kept_in fd))) 0 (drop at s))
+        → r ≡ as_leaf neg s (named_leaf leaves none (place_of (found_in w (kept_in fd))) 0 (drop at s))
     field_good g r er = er ∙ sym (rw (← in_fields, e, lt-ltb leaves leaf_limit g))
 
 pub ruleset fielding = (field_none, field_full, field_good, field_small)
@@ -236,8 +236,8 @@ module _ (neg : Bool) (s : List ℕ) (at : ℕ) (h : at ≤ length s) (w : Kept)
   in_statuses : x ≡ found_in w (kept_in st)
   in_statuses = is ∙ rw (whole st m all)
 
-  pub known_field : x ≡ F.Nothing → (r : LeafRead) → r ≡ as_leaf neg s (namedLeaf leaves none (place_of (found_in w (kept_in fd))) 0 (drop at s))
-      → r ≡ as_leaf neg s (namedLeaf leaves (place_of (found_in w (kept_in st))) (place_of (found_in w (kept_in fd))) 0 (drop at s))
+  pub known_field : x ≡ F.Nothing → (r : LeafRead) → r ≡ as_leaf neg s (named_leaf leaves none (place_of (found_in w (kept_in fd))) 0 (drop at s))
+      → r ≡ as_leaf neg s (named_leaf leaves (place_of (found_in w (kept_in st))) (place_of (found_in w (kept_in fd))) 0 (drop at s))
   known_field e r er = er ∙ sym (rw (← in_statuses, e))
 
   module _ (i : ℕ) (e : x ≡ F.At i) where
@@ -245,11 +245,11 @@ module _ (neg : Bool) (s : List ℕ) (at : ℕ) (h : at ≤ length s) (w : Kept)
     known_small g = let z = found_within (same_kept w) (kept_in st) i (sym in_statuses ∙ e) in omega (arith, kept_count st)
 
     pub known_full : leaf_limit ≤ leaves
-        → L.Refused FULL ≡ as_leaf neg s (namedLeaf leaves (place_of (found_in w (kept_in st))) (place_of (found_in w (kept_in fd))) 0 (drop at s))
+        → L.Refused FULL ≡ as_leaf neg s (named_leaf leaves (place_of (found_in w (kept_in st))) (place_of (found_in w (kept_in fd))) 0 (drop at s))
     known_full g = sym (rw (← in_statuses, e, le-ltb leaves leaf_limit g))
 
     pub known_good : leaves < leaf_limit → (b r : ℕ) → b ≡ bit neg → r ≡ word (2 + b) i 0
-        → L.Word r at ≡ as_leaf neg s (namedLeaf leaves (place_of (found_in w (kept_in st))) (place_of (found_in w (kept_in fd))) 0 (drop at s))
+        → L.Word r at ≡ as_leaf neg s (named_leaf leaves (place_of (found_in w (kept_in st))) (place_of (found_in w (kept_in fd))) 0 (drop at s))
     unfolding leaf_word
     known_good g b r eb er = sym (rw (← in_statuses, e, lt-ltb leaves leaf_limit g, took s at h, er, eb))
 
@@ -265,7 +265,7 @@ module _ (neg : Bool) (s : List ℕ) (leaves : ℕ) (st fd : List ℕ) (p : Name
     pub leaf_room : n ≤ length s
     leaf_room = name_fits p s is w n e
 
-    pub leaf_known : (r : LeafRead) → r ≡ as_leaf neg s (namedLeaf leaves (place_of (found_in w (kept_in st))) (place_of (found_in w (kept_in fd))) 0
+    pub leaf_known : (r : LeafRead) → r ≡ as_leaf neg s (named_leaf leaves (place_of (found_in w (kept_in st))) (place_of (found_in w (kept_in fd))) 0
         (drop n s))
         → r ≡ as_leaf neg s (read_leaf (names_in st) (names_in fd) leaves 0 s)
     unfolding read_leaf

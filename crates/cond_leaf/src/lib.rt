@@ -3,7 +3,7 @@
 
 ghost use Rattle.std.specs.Prelude.{◌≡◌, ◌≤◌, ◌<◌, length, drop};
 ghost use Rattle.std.proofs.Math.Option.{none};
-ghost use Rattle.meaning.specs.ReadCondition.{operator, named as namedLeaf, read_leaf};
+ghost use Rattle.meaning.specs.ReadCondition.{operator, named as named_leaf, read_leaf};
 ghost use Rattle.meaning.specs.Limits.{field_limit, status_limit, highest};
 ghost use Rattle.name.specs.Names.{kept_in, names_in};
 ghost use Rattle.name.specs.Answers.{place_of, found_in};
@@ -119,7 +119,7 @@ fn comparison(s: &[u8], at: usize, field: usize, neg: bool) -> LeafRead
 fn field_leaf(s: &[u8], at: usize, w: Name, fields: &[u64], leaves: usize, neg: bool) -> LeafRead
     requires { (at ≤ length s.now) × (length (names_in fields.now) ≤ field_limit) }
     ensures { result ≡ as_leaf neg s.now
-        (namedLeaf leaves none (place_of (found_in w (kept_in fields.now))) 0 (drop at s.now)) }
+        (named_leaf leaves none (place_of (found_in w (kept_in fields.now))) 0 (drop at s.now)) }
 {
     let f = name::find(fields, 0, name::count(fields), w);
     let Found::At(i) = f else {
@@ -143,7 +143,7 @@ fn known_leaf(
 ) -> LeafRead
     requires { (at ≤ length s.now) × (length (names_in statuses.now) ≤ status_limit) × (length (names_in fields.now) ≤ field_limit) }
     ensures { result ≡ as_leaf neg s.now
-        (namedLeaf leaves (place_of (found_in w (kept_in statuses.now))) (place_of (found_in w (kept_in fields.now))) 0
+        (named_leaf leaves (place_of (found_in w (kept_in statuses.now))) (place_of (found_in w (kept_in fields.now))) 0
         (drop at s.now)) }
 {
     let x = name::find(statuses, 0, name::count(statuses), w);

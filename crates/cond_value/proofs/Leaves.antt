@@ -10,7 +10,7 @@ use Rattle.meaning.specs.Condition.{Leaf, Cond, And, Item, leaves_c, leaves_a, l
 use Rattle.theory.specs.Lists.Members.{in_left, in_right, joined_both, joined_one}
 use Rattle.cond_value.specs.Flat.{bit, leaf_word, join, words_c, words_a, words_i, words}
 
-module _ {A : Type 0} (says : ℕ → List A) (means : Leaf → List A) (none-joining : (k : Bool) → says (bit k) ≡ []) where
+module _ {A : Type 0} (says : ℕ → List A) (means : Leaf → List A) (none_joining : (k : Bool) → says (bit k) ≡ []) where
   -- each leaf's word says what the leaf means
   abbrev Said : List Leaf → Type 0
   Said xs = (neg : Bool) (x : Leaf) → In x xs → says (leaf_word neg x) ≡ means x
@@ -18,7 +18,7 @@ module _ {A : Type 0} (says : ℕ → List A) (means : Leaf → List A) (none-jo
   join_none : (joins k : Bool) → joined says (join joins (bit k)) ≡ []
   unfolding joined
   join_none false k = refl
-  join_none true k = joined_one says (bit k) ∙ none-joining k
+  join_none true k = joined_one says (bit k) ∙ none_joining k
 
   words_last : (xs : List ℕ) (joins k : Bool) → joined says (xs ++ join joins (bit k)) ≡ joined says xs
   words_last xs joins k = joined_both says xs (join joins (bit k)) ∙ ap (λ l. joined says xs ++ l) (join_none joins k) ∙ append-nil (joined says xs)

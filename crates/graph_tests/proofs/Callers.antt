@@ -92,14 +92,14 @@ stages_taken hd =
     rw (map-append code hd.stages hd.miles, append_assoc) (take_at (map code hd.stages) _ (length hd.stages) (length-map hd.stages code))
 
 module _ (sh : Sheet) (rules : Rules) (under : List ℕ) (stages line : ℕ)
-    (rules-are : rules ≡ as_rules sh.rules) (under_is : under ≡ padded status_limit 0 (map (λ s. under_code s.under) (statuses sh.heads)))
+    (rules_are : rules ≡ as_rules sh.rules) (under_is : under ≡ padded status_limit 0 (map (λ s. under_code s.under) (statuses sh.heads)))
     (stages_are : stages ≡ length sh.heads.stages) (line_is : line ≡ rule_line sh.heads) where
   -- the rows are those of the sheet's tests
   pub tests_are : (r : Tests) → r ≡ tests_of rules under stages line → r ≡ as_tests (rows_of sh)
   unfolding tests_of rows_of
   tests_are r e =
       let over : (x : ℕ) → get_or under x 0 ≡ under_code (stage_over sh.heads x) = λ x. ap (λ u. get_or u x 0) under_is ∙ under_over sh.heads x in
-      let rows : take rules.count rules.rows ≡ as_rows 0 sh.rules = ap (λ (t : Rules). take t.count t.rows) rules-are ∙ rows_taken sh.rules in
+      let rows : take rules.count rules.rows ≡ as_rows 0 sh.rules = ap (λ (t : Rules). take t.count t.rows) rules_are ∙ rows_taken sh.rules in
       let codes : take stages under ≡ map (λ s. under_code s.under) sh.heads.stages = ap₂ take stages_are under_is ∙ stages_taken sh.heads in
       e
       ∙ ap₂ (λ xs ys. as_tests (xs ++ ys))
@@ -109,8 +109,8 @@ module _ (sh : Sheet) (rules : Rules) (under : List ℕ) (stages line : ℕ)
 -- a sheet that was read meets what is asked
 pub tests_ready : (sh : Sheet) → Well sh → (rules : Rules) (line : ℕ) → rules ≡ as_rules sh.rules → line ≡ rule_line sh.heads → Ready rules line
 unfolding as_rules as_rule as_rows rule_line
-tests_ready sh w rules line rules-are line_is = record {
-  statuses = λ i. rw (rules-are, padded_at rule_limit no_rule (as_rows 0 sh.rules) i) (below sh.rules 0 i (λ r m. (w.rules r m).status));
+tests_ready sh w rules line rules_are line_is = record {
+  statuses = λ i. rw (rules_are, padded_at rule_limit no_rule (as_rows 0 sh.rules) i) (below sh.rules 0 i (λ r m. (w.rules r m).status));
   lines = omega (arith, line_is, w.heads.fields_few, w.heads.events_few, w.heads.statuses_few);
 }
   where

@@ -14,7 +14,7 @@ use Rattle.meaning.specs.Dependency.{testing_order}
 use Rattle.meaning.specs.Circle.{Edge, around, circle, edge_line}
 use Rattle.meaning.specs.Step.{rising}
 use Rattle.meaning.specs.Prospect.{Prospect, always, never, still_open, prospect, yes_names}
-use Rattle.meaning.specs.Why.{trigger-not-met, home-not-open, condition-false, condition-unknown, Kind, held, closed, stopped, Reason}
+use Rattle.meaning.specs.Why.{trigger_not_met, home_not_open, condition_false, condition_unknown, Kind, held, closed, stopped, Reason}
 use Rattle.meaning.specs.Write.{line, card_text}
 use Rattle.meaning.specs.Doors.{Accepted, read_sheet, Case, read_case, next, outlook, reasons_in}
 use Rattle.meaning.specs.Desk.{line_length, refusal_text, or_refusal, outlook_lines, on_papers}
@@ -34,10 +34,10 @@ line_at l s = let here = behind_lines (l - 1) s in take (line_length here) here
 abbrev pub kind_words : Kind → List ℕ
 kind_words held = text "held"
 kind_words closed = text "closed"
-kind_words (stopped trigger-not-met) = text "trigger not met"
-kind_words (stopped home-not-open) = text "home not open"
-kind_words (stopped condition-false) = text "condition false"
-kind_words (stopped condition-unknown) = text "condition unknown"
+kind_words (stopped trigger_not_met) = text "trigger not met"
+kind_words (stopped home_not_open) = text "home not open"
+kind_words (stopped condition_false) = text "condition false"
+kind_words (stopped condition_unknown) = text "condition unknown"
 
 -- the name of "the status"
 unfoldable pub status_name : Heads → ℕ → Name

@@ -13,7 +13,7 @@ use Rattle.meaning.specs.Step.{Moment, fell, triggered, housed, condition_on, ho
 
 -- "with the first thing that stopped it: the trigger, the home stage, a false condition, or an unknown one"
 pub data Stop : Type 0 where
-  trigger-not-met home-not-open condition-false condition-unknown : Stop
+  trigger_not_met home_not_open condition_false condition_unknown : Stop
 
 -- "the first rule line that held", "or, where no line held, the parent whose closing closed it", or "the first thing that stopped it"
 pub data Kind : Type 0 where
@@ -24,10 +24,10 @@ pub data Kind : Type 0 where
 abbrev pub kind_number : Kind → ℕ
 kind_number held = 1
 kind_number closed = 2
-kind_number (stopped trigger-not-met) = 3
-kind_number (stopped home-not-open) = 4
-kind_number (stopped condition-false) = 5
-kind_number (stopped condition-unknown) = 6
+kind_number (stopped trigger_not_met) = 3
+kind_number (stopped home_not_open) = 4
+kind_number (stopped condition_false) = 5
+kind_number (stopped condition_unknown) = 6
 
 -- of a status, by its place: a line of the sheet, which is the rule's or that of the parent's `stage=`, and the kind; "A reason is one number: (status x 1000
 -- + line) x 10 + kind"
@@ -69,9 +69,9 @@ module _ (sh : Sheet) (m : Moment) (after : List Bool) where
   -- can be unknown
   unfoldable pub parts_of : Test → List Part
   parts_of t =
-      record { value = known₃ (triggered m after t.trigger); if_false = trigger-not-met; if_unknown = trigger-not-met }
-      ∷ record { value = known₃ (housed m after t.home); if_false = home-not-open; if_unknown = home-not-open }
-      ∷ record { value = condition_on m after t.condition; if_false = condition-false; if_unknown = condition-unknown }
+      record { value = known₃ (triggered m after t.trigger); if_false = trigger_not_met; if_unknown = trigger_not_met }
+      ∷ record { value = known₃ (housed m after t.home); if_false = home_not_open; if_unknown = home_not_open }
+      ∷ record { value = condition_on m after t.condition; if_false = condition_false; if_unknown = condition_unknown }
       ∷ []
 
   -- "For each that did not, every rule line for the change it could have made", in sheet order

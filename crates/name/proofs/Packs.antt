@@ -189,7 +189,7 @@ module _ (s : List ℕ) (n : ℕ) (is : n ≡ run name_byte s) where
   unfolding packed
   pack_start = sym (rw (drop_of_length-le (take n s) {i = n} (omega (arith, length_run name_byte s n is))))
 
-  module _ (i : ℕ) (more : 0 < i) (in-run : i ≤ n) where
+  module _ (i : ℕ) (more : 0 < i) (in_run : i ≤ n) where
     module _ (j : ℕ) (z : j ≡ i - 1) where
       led : drop j (take n s) ≡ get_or s j 0 ∷ drop i (take n s)
       led =

@@ -112,15 +112,15 @@ module _ (a : Accepted) (m : Moment) where
   abbrev lists : List (List ℕ)
   lists = tried_from (take a.top a.words) a.heads.fields 0 m.values
 
-  module _ {count : ℕ} {flat-was flat lens-was lens : List ℕ}
-      (filled : Filled (tried_from (take a.top a.words) a.heads.fields 0 m.values) count flat-was flat lens-was lens)
-      (v16 : length m.values ≡ field_limit) (l16 : length lens-was ≡ field_limit) where
+  module _ {count : ℕ} {flat_was flat lens_was lens : List ℕ}
+      (filled : Filled (tried_from (take a.top a.words) a.heads.fields 0 m.values) count flat_was flat lens_was lens)
+      (v16 : length m.values ≡ field_limit) (l16 : length lens_was ≡ field_limit) where
     -- too many
     module _ (none : count ≡ 0) where
       exceeds : ltb part_limit (size (tried_of a m)) ≡ true
       unfolding tried_of
       exceeds = lt-ltb part_limit (size lists) (fill_many (take a.top a.words) a.heads.fields
-          m.values count flat-was flat lens-was lens v16 l16 filled none)
+          m.values count flat_was flat lens_was lens v16 l16 filled none)
 
       pub list_many : Many ≡ as_listed a m
       unfolding as_listed
@@ -133,16 +133,16 @@ module _ (a : Accepted) (m : Moment) where
     -- what a choice is taken from
     module _ (some : count ≡ 0 → ⊥) where
       few : (count ≡ size lists) × (size lists ≤ part_limit)
-      few = fill_few (take a.top a.words) a.heads.fields m.values count flat-was flat lens-was lens v16 l16 filled some
+      few = fill_few (take a.top a.words) a.heads.fields m.values count flat_was flat lens_was lens v16 l16 filled some
 
       pub list_room_lem : (ps : List ℕ) → length ps ≡ part_limit → count ≤ length ps
       list_room_lem ps l = omega (arith, few.0, few.1)
 
       pub list_product : count ≡ product lens
-      list_product = fill_product (take a.top a.words) a.heads.fields m.values count flat-was flat lens-was lens v16 l16 filled some
+      list_product = fill_product (take a.top a.words) a.heads.fields m.values count flat_was flat lens_was lens v16 l16 filled some
 
       pub list_sum : sum lens ≤ length flat
-      list_sum = fill_room (take a.top a.words) a.heads.fields m.values count flat-was flat lens-was lens v16 l16 filled some
+      list_sum = fill_room (take a.top a.words) a.heads.fields m.values count flat_was flat lens_was lens v16 l16 filled some
 
       within : ltb part_limit (size (tried_of a m)) ≡ false
       unfolding tried_of
@@ -152,7 +152,7 @@ module _ (a : Accepted) (m : Moment) where
         list_is : Front (list_of a m) n was now
         unfolding list_of tried_of
         list_is =
-            let rs = fill_lists (take a.top a.words) a.heads.fields m.values count flat-was flat lens-was lens v16 l16 filled some in
+            let rs = fill_lists (take a.top a.words) a.heads.fields m.values count flat_was flat lens_was lens v16 l16 filled some in
             subst (λ l. Front l n was now) (rw (rs, few.0)) front
 
         pub list_all : Patterns n ≡ as_listed a m

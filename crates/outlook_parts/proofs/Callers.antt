@@ -23,7 +23,7 @@ use Rattle.outlook_parts.proofs.Laws.{tried_behind, tried_known, tried_missing, 
 -- THE MEANING'S LISTS
 
 -- for any coding of values by numbers that has 0 for `?`, and cuts as words tell them
-module _ (code : Value → ℕ) (of-missing : code missing ≡ 0) (of_number : (v : ℕ) → code (number_at v) ≡ suc v)
+module _ (code : Value → ℕ) (of_missing : code missing ≡ 0) (of_number : (v : ℕ) → code (number_at v) ≡ suc v)
     (ts : List Test) (ws : List ℕ) (cut_codes_lem : (f : ℕ) → f < field_limit → cut_codes f ws ≡ map suc (cuts ts f)) where
   -- behind the fields
   tried_none : (fields k f : ℕ) → fields ≤ f → tried_from ws fields f (replicate k 0) ≡ replicate k (0 ∷ [])
@@ -41,7 +41,7 @@ module _ (code : Value → ℕ) (of-missing : code missing ≡ 0) (of_number : (
   tried_from_lem fields f k [] e h = tried_none fields k f (omega arith)
   tried_from_lem fields f k (missing ∷ vs) e h =
       ap₂ (λ r rs. r ∷ rs)
-      (tried_missing ws fields f (code missing) (omega arith) of-missing
+      (tried_missing ws fields f (code missing) (omega arith) of_missing
       ∙ ap₂ (λ x l. x ∷ l) (sym (of_number 0)) (cut_codes_lem f (omega arith) ∙ sym (coded_cuts (cuts ts f))))
       (tried_from_lem fields (suc f) k vs (omega arith) h)
   tried_from_lem fields f k (number_at v ∷ vs) e h =
@@ -91,8 +91,8 @@ until_all ws fields f p (v ∷ vs) h =
     let few : p * length r ≤ part_limit = omega (arith, mul-le-mul_left (p * length r) (tried_pos ws fields (suc f) vs), mul-one (p * length r)) in
     until_more p r rs few ∙ ap (λ l. r ∷ l) (until_all ws fields (suc f) (p * length r) vs k)
 
-module _ (ws : List ℕ) (fields : ℕ) (values : List ℕ) (r : ℕ) (flat-was flat lens-was lens : List ℕ)
-    (v16 : length values ≡ field_limit) (l16 : length lens-was ≡ field_limit) (s : Filled (tried_from ws fields 0 values) r flat-was flat lens-was lens) where
+module _ (ws : List ℕ) (fields : ℕ) (values : List ℕ) (r : ℕ) (flat_was flat lens_was lens : List ℕ)
+    (v16 : length values ≡ field_limit) (l16 : length lens_was ≡ field_limit) (s : Filled (tried_from ws fields 0 values) r flat_was flat lens_was lens) where
   abbrev lists : List (List ℕ)
   lists = tried_from ws fields 0 values
 
@@ -114,17 +114,17 @@ module _ (ws : List ℕ) (fields : ℕ) (values : List ℕ) (r : ℕ) (flat-was 
 
     lens_is : lens ≡ map length lists
     lens_is = s.lengths
-        ∙ rw all_lists (ap (λ l. map length lists ++ l) (drop_of_length-le lens-was {i = length lists} (omega (arith, tried_length ws fields 0 values)))
+        ∙ rw all_lists (ap (λ l. map length lists ++ l) (drop_of_length-le lens_was {i = length lists} (omega (arith, tried_length ws fields 0 values)))
         ∙ append-nil (map length lists))
 
-    flat_is : flat ≡ strung lists ++ drop (length (strung lists)) flat-was
+    flat_is : flat ≡ strung lists ++ drop (length (strung lists)) flat_was
     flat_is = s.lists ∙ rw all_lists
 
     pub fill_lists : split lens flat ≡ lists
-    fill_lists = rw (lens_is, flat_is) (split_strung lists (drop (length (strung lists)) flat-was))
+    fill_lists = rw (lens_is, flat_is) (split_strung lists (drop (length (strung lists)) flat_was))
 
     pub fill_product : r ≡ product lens
     fill_product = (fill_few some).0 ∙ ap product (sym lens_is)
 
     pub fill_room : sum lens ≤ length flat
-    fill_room = rw (lens_is, flat_is) (omega (arith, strung_length lists, length-append (strung lists) (drop (length (strung lists)) flat-was)))
+    fill_room = rw (lens_is, flat_is) (omega (arith, strung_length lists, length-append (strung lists) (drop (length (strung lists)) flat_was)))

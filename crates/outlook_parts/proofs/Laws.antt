@@ -123,24 +123,24 @@ unfolding until
 until_many p r rs h = rw (lt-ltb part_limit (p * length r) h)
 
 -- the lists so far stand in the space, and with what is still to be tried they give the whole
-pub record Filling (ws : List ℕ) (fields : ℕ) (values flat-was flat lens-was lens : List ℕ) (total p f : ℕ) : Type 0 where
+pub record Filling (ws : List ℕ) (fields : ℕ) (values flat_was flat lens_was lens : List ℕ) (total p f : ℕ) : Type 0 where
   pub within : f ≤ field_limit
   pub one : 1 ≤ p
   pub most : p ≤ part_limit
   pub small : total ≤ p + f
-  pub flat_long : length flat ≡ length flat-was
+  pub flat_long : length flat ≡ length flat_was
   pub lens_long : length lens ≡ field_limit
   pub done : List (List ℕ)
   pub so_many : f ≡ length done
   pub lists : until 1 (tried_from ws fields 0 values) ≡ done ++ until p (tried_from ws fields f (drop f values))
   pub left : size (tried_from ws fields 0 values) ≡ p * size (tried_from ws fields f (drop f values))
-  pub front : Front (strung done) total flat-was flat
-  pub lengths : lens ≡ map length done ++ drop f lens-was
+  pub front : Front (strung done) total flat_was flat
+  pub lengths : lens ≡ map length done ++ drop f lens_was
 
 -- the lengths keep their number
-pub lens_same : {ws : List ℕ} {fields : ℕ} {values flat-was flat lens-was lens : List ℕ} {total p f : ℕ}
-    → Filling ws fields values flat-was flat lens-was lens total p f
-    → length lens-was ≡ field_limit → (n : ℕ) → length (set lens f n) ≡ length lens-was
+pub lens_same : {ws : List ℕ} {fields : ℕ} {values flat_was flat lens_was lens : List ℕ} {total p f : ℕ}
+    → Filling ws fields values flat_was flat lens_was lens total p f
+    → length lens_was ≡ field_limit → (n : ℕ) → length (set lens f n) ≡ length lens_was
 lens_same {lens = lens} {f = f} s e n = length-set lens f n ∙ s.lens_long ∙ sym e
 
 -- the value of a field
@@ -148,23 +148,23 @@ pub value_low : {values : List ℕ} → Coded values → (f : ℕ) → f < field
 value_low coded = coded.low
 
 -- what was filled, from the lists that stand there
-filled : (rs all : List (List ℕ)) (r : ℕ) (flat-was flat lens-was lens : List ℕ) (total f : ℕ) → until 1 rs ≡ all
+filled : (rs all : List (List ℕ)) (r : ℕ) (flat_was flat lens_was lens : List ℕ) (total f : ℕ) → until 1 rs ≡ all
     → r ≡ cond (ltb part_limit (size rs)) 0 (size rs)
-    → Front (strung all) total flat-was flat → f ≡ length all → lens ≡ map length all ++ drop f lens-was → Filled rs r flat-was flat lens-was lens
-filled rs all r flat-was flat lens-was lens total f e p g n l = record {
+    → Front (strung all) total flat_was flat → f ≡ length all → lens ≡ map length all ++ drop f lens_was → Filled rs r flat_was flat lens_was lens
+filled rs all r flat_was flat lens_was lens total f e p g n l = record {
   product = p;
-  lists = rw e (g.list ∙ ap (λ k. strung all ++ drop k flat-was) g.count);
-  lengths = rw e (l ∙ ap (λ k. map length all ++ drop k lens-was) n);
+  lists = rw e (g.list ∙ ap (λ k. strung all ++ drop k flat_was) g.count);
+  lengths = rw e (l ∙ ap (λ k. map length all ++ drop k lens_was) n);
 }
 
-module _ (words : List ℕ) (top fields : ℕ) (values flat-was lens-was : List ℕ) where
+module _ (words : List ℕ) (top fields : ℕ) (values flat_was lens_was : List ℕ) where
   abbrev ws : List ℕ
   ws = take top words
 
   abbrev rs : List (List ℕ)
   rs = tried_from ws fields 0 values
 
-  pub filling_start : length lens-was ≡ field_limit → Filling ws fields values flat-was flat-was lens-was lens-was 0 1 0
+  pub filling_start : length lens_was ≡ field_limit → Filling ws fields values flat_was flat_was lens_was lens_was 0 1 0
   unfolding joined
   filling_start h = record {
     within = omega arith;
@@ -177,22 +177,22 @@ module _ (words : List ℕ) (top fields : ℕ) (values flat-was lens-was : List 
     so_many = refl;
     lists = refl;
     left = sym (one-mul (size rs));
-    front = front_none flat-was;
+    front = front_none flat_was;
     lengths = refl;
   }
 
-  pub filling_done : length values ≡ field_limit → (flat lens : List ℕ) (total p f : ℕ) → Filling ws fields values flat-was flat lens-was lens total p f
-      → field_limit ≤ f → Filled rs p flat-was flat lens-was lens
+  pub filling_done : length values ≡ field_limit → (flat lens : List ℕ) (total p f : ℕ) → Filling ws fields values flat_was flat lens_was lens total p f
+      → field_limit ≤ f → Filled rs p flat_was flat lens_was lens
   unfolding tried_from until product
   filling_done v16 flat lens total p f s h =
       let none : drop f values ≡ [] = drop_of_length-le values {i = f} (omega arith) in
       let size_is : size rs ≡ p = s.left ∙ rw none (mul-one p) in
-      filled rs s.done p flat-was flat lens-was lens total f (s.lists ∙ rw none (append-nil s.done)) (rw size_is (rw (le-ltb part_limit p s.most)))
+      filled rs s.done p flat_was flat lens_was lens total f (s.lists ∙ rw none (append-nil s.done)) (rw size_is (rw (le-ltb part_limit p s.most)))
       s.front s.so_many s.lengths
 
-  module _ (all : top ≤ length words) (few : top ≤ word_room) (flat-room : flat_room ≤ length flat-was) (lens16 : length lens-was ≡ field_limit)
+  module _ (all : top ≤ length words) (few : top ≤ word_room) (flat_wide : flat_room ≤ length flat_was) (lens16 : length lens_was ≡ field_limit)
       (v16 : length values ≡ field_limit)
-      (flat lens : List ℕ) (total p f : ℕ) (s : Filling ws fields values flat-was flat lens-was lens total p f) (more : f < field_limit) where
+      (flat lens : List ℕ) (total p f : ℕ) (s : Filling ws fields values flat_was flat lens_was lens total p f) (more : f < field_limit) where
     -- the room for the next field
     pub total_in : total ≤ length flat
     total_in = omega (arith, s.small, s.most, s.flat_long)
@@ -231,7 +231,7 @@ module _ (words : List ℕ) (top fields : ℕ) (values flat-was lens-was : List 
       unfolding product
       size_is = s.left ∙ ap (λ l. p * size l) next ∙ sym (mul_assoc p (length r) (size rest)) ∙ ap (λ k. p * k * size rest) (sym g.count)
 
-      next_front : Front (strung (s.done ++ (r ∷ []))) (total + n) flat-was after
+      next_front : Front (strung (s.done ++ (r ∷ []))) (total + n) flat_was after
       next_front =
           let e : strung (s.done ++ (r ∷ [])) ≡ strung s.done ++ r = joined_both (λ l. l) s.done (r ∷ [])
           ∙ ap (λ l. strung s.done ++ l) (joined_one (λ l. l) r) in
@@ -242,27 +242,27 @@ module _ (words : List ℕ) (top fields : ℕ) (values flat-was lens-was : List 
       next_long : suc f ≡ length (s.done ++ (r ∷ []))
       next_long = rw length-append (omega (arith, s.so_many))
 
-      next_lengths : set lens f n ≡ map length (s.done ++ (r ∷ [])) ++ drop (suc f) lens-was
+      next_lengths : set lens f n ≡ map length (s.done ++ (r ∷ [])) ++ drop (suc f) lens_was
       next_lengths =
           let ds : List ℕ = map length s.done in
           let l : length ds ≡ f = length-map s.done length ∙ sym s.so_many in
-          ap (λ z. set z f n) (s.lengths ∙ ap (λ z. ds ++ z) (drop-cons lens-was f 0 (omega arith)))
-          ∙ set_at ds (get_or lens-was f 0) (drop (suc f) lens-was) n f l
-          ∙ sym (append_snoc ds n (drop (suc f) lens-was))
-          ∙ ap (λ k. ds ++ (k ∷ []) ++ drop (suc f) lens-was) g.count
-          ∙ ap (λ z. z ++ drop (suc f) lens-was) (sym (map-append length s.done (r ∷ [])))
+          ap (λ z. set z f n) (s.lengths ∙ ap (λ z. ds ++ z) (drop-cons lens_was f 0 (omega arith)))
+          ∙ set_at ds (get_or lens_was f 0) (drop (suc f) lens_was) n f l
+          ∙ sym (append_snoc ds n (drop (suc f) lens_was))
+          ∙ ap (λ k. ds ++ (k ∷ []) ++ drop (suc f) lens_was) g.count
+          ∙ ap (λ z. z ++ drop (suc f) lens_was) (sym (map-append length s.done (r ∷ [])))
 
-      pub filling_many : part_limit < p * n → Filled rs 0 flat-was after lens-was (set lens f n)
+      pub filling_many : part_limit < p * n → Filled rs 0 flat_was after lens_was (set lens f n)
       filling_many h =
           let k : part_limit < p * length r = rw g.count at h in
           let big : part_limit < size rs =
           omega (arith, size_is, mul-le-mul_left (p * n) (tried_pos ws fields (suc f) (drop (suc f) values)), mul-one (p * n)) in
-          filled rs (s.done ++ (r ∷ [])) 0 flat-was after lens-was (set lens f n) (total + n) (suc f)
+          filled rs (s.done ++ (r ∷ [])) 0 flat_was after lens_was (set lens f n) (total + n) (suc f)
           (s.lists ∙ ap (λ z. s.done ++ z) (ap (until p) next ∙ until_many p r rest k))
           (rw (lt-ltb part_limit (size rs) big)) next_front next_long next_lengths
 
       pub filling_more : p * n ≤ part_limit → (t j : ℕ) → t ≡ total + n → j ≡ f + 1
-          → Filling ws fields values flat-was after lens-was (set lens f n) t (p * n) j
+          → Filling ws fields values flat_was after lens_was (set lens f n) t (p * n) j
       filling_more h t j et ej =
           let k : p * length r ≤ part_limit = rw g.count at h in
           let z : j ≡ suc f = omega arith in

@@ -34,7 +34,7 @@ until p [] = []
 until p (r ∷ rs) = r ∷ cond (ltb part_limit (p * length r)) [] (until (p * length r) rs)
 
 -- "the product of the parts", or 0 where it "exceeds 4,096"; the lists and their lengths stand in the front of lent space
-pub record Filled (rs : List (List ℕ)) (r : ℕ) (flat-was flat lens-was lens : List ℕ) : Type 0 where
+pub record Filled (rs : List (List ℕ)) (r : ℕ) (flat_was flat lens_was lens : List ℕ) : Type 0 where
   pub product : r ≡ cond (ltb part_limit (size rs)) 0 (size rs)
-  pub lists : flat ≡ strung (until 1 rs) ++ drop (length (strung (until 1 rs))) flat-was
-  pub lengths : lens ≡ map length (until 1 rs) ++ drop (length (until 1 rs)) lens-was
+  pub lists : flat ≡ strung (until 1 rs) ++ drop (length (strung (until 1 rs))) flat_was
+  pub lengths : lens ≡ map length (until 1 rs) ++ drop (length (until 1 rs)) lens_was

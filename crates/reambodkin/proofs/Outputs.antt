@@ -125,10 +125,10 @@ module _ {s lent : List ℕ} {n : ℕ} {out : List ℕ} where
 
   -- without one: the counts
   pub checked_counts : Checked s lent n out → (sh : Sheet) → InOrder s sh → (Cycle (predecessors (tests sh)) → ⊥) → take n out ≡ sheet_told sh
-  checked_counts d sh q none-there = go (testing_order sh) refl
+  checked_counts d sh q none_there = go (testing_order sh) refl
     where
       go : (o : Option (List ℕ)) → testing_order sh ≡ o → take n out ≡ sheet_told sh
-      go none e = absurd (none-there ((sheet_circle s sh q).1.0 e))
+      go none e = absurd (none_there ((sheet_circle s sh q).1.0 e))
       go (some o) e = checked d ∙ check_sheet s sh o q e
 
   -- the blank card

@@ -97,6 +97,6 @@ module _ (hd : M.Heads) (e : Event) (few : length e.carries ≤ field_limit) (ro
       → tabled h.model h.fields (old.events + 1) h.stages h.miles ns h.carried (set h.carries old.events count) h.under ≡ as_heads
       (with_event hd e)
   unfolding as_heads statuses
-  heads_event h old x is old-is x-is count count_is ns names =
-      let z : x ≡ field_limit * length so = x-is ∙ rw old-is in
-      rw (is, names, old-is, cells_all x z, count_is, mapped_set event_limit (λ (y : Event). length y.carries) so e room, length-append so (e ∷ []))
+  heads_event h old x is old_is x-is count count_is ns names =
+      let z : x ≡ field_limit * length so = x-is ∙ rw old_is in
+      rw (is, names, old_is, cells_all x z, count_is, mapped_set event_limit (λ (y : Event). length y.carries) so e room, length-append so (e ∷ []))

@@ -165,9 +165,9 @@ module _ (s : List ℕ) (before : HeadsRead) (old : Heads) (from : ℕ) (w : Kep
   piece : PieceTold (fields_in old) i.so old.fields count i.left p
   unfolding piece_at
   piece =
-      let so-far : take count (drop place (sets old.carried place i.so)) ≡ i.so
+      let read_so_far : take count (drop place (sets old.carried place i.so)) ≡ i.so
       = rw i.count_is (sets_part i.so old.carried place (omega (arith, fits, i.few, i.count_is, i.head.wide))) in
-      piece_told (fields_in old) i.so old.fields count i.left p (rw (i.is, so-far) at read)
+      piece_told (fields_in old) i.so old.fields count i.left p (rw (i.is, read_so_far) at read)
 
   module _ (f j : ℕ) (given : p ≡ P.Field f j) where
     further : PieceTold (fields_in old) i.so old.fields count i.left (P.Field f j)

@@ -114,9 +114,9 @@ module _ (fs ss : List Name) (leaves : ℕ) where
         line : e ≡ as_bytes (drop p.bytes s) (due COND (text "\n") 0 (drop p.bytes s))
         line = rw at at end
 
-        module _ (k : ℕ) (not-due : e ≡ B.Refused k) where
+        module _ (k : ℕ) (not_due : e ≡ B.Refused k) where
           open_end : asked 0 s ≡ wrong k 0
-          open_end = left_wrong (line_end COND) _ came k (line_end_wrong e COND (drop p.bytes s) line k not-due 0)
+          open_end = left_wrong (line_end COND) _ came k (line_end_wrong e COND (drop p.bytes s) line k not_due 0)
 
           pub asked_open : C.Refused k ≡ as_ending s top leaves (asked 0 s)
           asked_open = rw open_end

@@ -57,9 +57,9 @@ module _ (n left at : ℕ) (o : List ℕ) (fits : at + length (written_in left n
     pub digit_done : n < 10 → (b : ℕ) → b ≡ 48 + n → (o1 : List ℕ) (r : ℕ) → Wrote at (b ∷ []) o o1 r → Wrote at (written_in left n) o o1 r
     digit_done h b e o1 r v = rw (digits_one left n some h, ← e) v
 
-    module _ (high : 10 ≤ n) (m k : ℕ) (m-is : m ≡ n / 10) (k-is : k ≡ left - 1) where
+    module _ (high : 10 ≤ n) (m k : ℕ) (m_is : m ≡ n / 10) (k-is : k ≡ left - 1) where
       front : written_in left n ≡ written_in k m ++ ((48 + n % 10) ∷ [])
-      front = rw (m-is, k-is) (digits_more left n some high)
+      front = rw (m_is, k-is) (digits_more left n some high)
 
       pub digits_front : at + length (written_in k m) ≤ length o
       digits_front = first_room at (written_in left n) (written_in k m) ((48 + n % 10) ∷ []) o front fits

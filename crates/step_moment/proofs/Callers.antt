@@ -198,7 +198,7 @@ module _ (hd : Heads) (few : length (statuses hd) ≤ status_limit) (before afte
           ≡ get_or (started_from hd.stages before after 0 hd.stages) i false
       each i h =
           let below : i < length hd.stages = omega (arith, long) in
-          let zero-i : 0 + i ≡ i = omega arith in
+          let zero_i : 0 + i ≡ i = omega arith in
           side_at (take (length hd.stages) (task_marks parents (marked before) (marked after))) i (rw length-take (omega (arith, whole, stages_few)))
           ∙ ap is_yes (get_or-take (length hd.stages) (task_marks parents (marked before) (marked after)) i 0 below
           ∙ (task_at parents (marked before) (marked after) i (omega (arith, full, stages_few)) (omega (arith, marks_long before lb, stages_few))
@@ -206,7 +206,7 @@ module _ (hd : Heads) (few : length (statuses hd) ≤ status_limit) (before afte
           ∙ task_yes (get_or parents i 0) (get_or (marked before) i 0) (get_or (marked after) i 0)
           ∙ ap₂ (λ a b. a && b) (alone i below)
           (ap₂ (λ a b. not a && b) (mark_yes before i) (mark_yes after i))
-          ∙ sym (rw zero-i at (started_at hd before after 0 i hd.stages below))
+          ∙ sym (rw zero_i at (started_at hd before after 0 i hd.stages below))
 
   codes_taken : take (length hd.stages) (padded status_limit 0 (map (λ s. under_code s.under) (statuses hd))) ≡ codes
   unfolding padded statuses

@@ -111,7 +111,7 @@ module _ (m : M.Moment) (half : List Bool) (ws : List ℕ) where
 -- THE RUN
 
 -- over any tests, and rows that stand for them
-module _ (ts : List T.Test) (rs : List Test) (ws : List ℕ) (s : Standing ws ts rs) (fits : FitAll ts) (few-tests : length ts ≤ test_room)
+module _ (ts : List T.Test) (rs : List Test) (ws : List ℕ) (s : Standing ws ts rs) (fits : FitAll ts) (few_tests : length ts ≤ test_room)
     (o : List ℕ) (once : Once o) (n : ℕ) (only : (k : ℕ) → In k o → k < n) where
   few : length (listed_by rs o) ≤ test_room
   few = omega (arith, listed_few rs o once, standing_count ws ts rs s)

@@ -15,7 +15,7 @@ use Rattle.meaning.specs.Sheet as M
 use Rattle.meaning.specs.Card.{is}
 use Rattle.meaning.specs.Tests as T
 use Rattle.meaning.specs.Step.{Moment, allowed, needed, triggered, housed, condition_on, fulfilled, holds}
-use Rattle.meaning.specs.Why.{trigger-not-met, home-not-open, condition-false, condition-unknown, parts_of, first_stop}
+use Rattle.meaning.specs.Why.{trigger_not_met, home_not_open, condition_false, condition_unknown, parts_of, first_stop}
 use Rattle.marks.specs.Codes.{code, marked}
 use Rattle.marks.proofs.Callers.{mark_yes, mark_known, value_at}
 use Rattle.sheet_tables.specs.Heads.{under_code}
@@ -138,9 +138,9 @@ module _ (m : Moment) (half : List Bool) where
       stop_same sh = rw (trigger_same, home_same, value_same) (go (triggered m half t.trigger) (housed m half t.home) (condition_on m half t.condition))
         where
           go : (a b : Bool) (v : Kleene) → cond a (cond b (condition_stop (code v)) 4) 3
-              ≡ stop_code (first_stop (record { value = known₃ a; if_false = trigger-not-met; if_unknown = trigger-not-met }
-              ∷ record { value = known₃ b; if_false = home-not-open; if_unknown = home-not-open }
-              ∷ record { value = v; if_false = condition-false; if_unknown = condition-unknown } ∷ []))
+              ≡ stop_code (first_stop (record { value = known₃ a; if_false = trigger_not_met; if_unknown = trigger_not_met }
+              ∷ record { value = known₃ b; if_false = home_not_open; if_unknown = home_not_open }
+              ∷ record { value = v; if_false = condition_false; if_unknown = condition_unknown } ∷ []))
           go false b v = refl
           go true false v = refl
           go true true true₃ = refl

@@ -17,7 +17,7 @@ use Rattle.meaning.specs.Tests.{up, down, rule_tests, rule_line, implied, tests}
 use Rattle.meaning.specs.Dependency.{tests_for}
 use Rattle.meaning.specs.Step as M
 use Rattle.meaning.specs.Step.{rising, allowed, holds, changes}
-use Rattle.meaning.specs.Why.{Stop, kind_number, stopped, trigger-not-met, home-not-open, condition-false, condition-unknown, first_stop, parts_of, change_of, changed, first_that}
+use Rattle.meaning.specs.Why.{Stop, kind_number, stopped, trigger_not_met, home_not_open, condition_false, condition_unknown, first_stop, parts_of, change_of, changed, first_that}
 use Rattle.theory.specs.Lists.Members.{keep_append, keep_all, keep_none, keep_in}
 use Rattle.theory.specs.Step.SheetTests.{child_test}
 use Rattle.theory.specs.Why.Stops.{rule_lines}
@@ -110,31 +110,31 @@ digit l k h = omega arith
 
 kind_low : (w : Option Stop) → kind_code (stop_code w) < 10
 kind_low none = omega arith
-kind_low (some trigger-not-met) = omega arith
-kind_low (some home-not-open) = omega arith
-kind_low (some condition-false) = omega arith
-kind_low (some condition-unknown) = omega arith
+kind_low (some trigger_not_met) = omega arith
+kind_low (some home_not_open) = omega arith
+kind_low (some condition_false) = omega arith
+kind_low (some condition_unknown) = omega arith
 
 held_digit : (w : Option Stop) → eqb (kind_code (stop_code w)) 1 ≡ eqb (stop_code w) 0
 held_digit none = refl
-held_digit (some trigger-not-met) = refl
-held_digit (some home-not-open) = refl
-held_digit (some condition-false) = refl
-held_digit (some condition-unknown) = refl
+held_digit (some trigger_not_met) = refl
+held_digit (some home_not_open) = refl
+held_digit (some condition_false) = refl
+held_digit (some condition_unknown) = refl
 
 stop_digit : (w : Option Stop) (l : ℕ) → cond (ltb 1 (kind_code (stop_code w))) ((l * 10 + kind_code (stop_code w)) ∷ []) [] ≡ stop_list l w
 stop_digit none l = refl
-stop_digit (some trigger-not-met) l = refl
-stop_digit (some home-not-open) l = refl
-stop_digit (some condition-false) l = refl
-stop_digit (some condition-unknown) l = refl
+stop_digit (some trigger_not_met) l = refl
+stop_digit (some home_not_open) l = refl
+stop_digit (some condition_false) l = refl
+stop_digit (some condition_unknown) l = refl
 
 held_one : (w : Option Stop) → eqb (stop_code w) 0 ≡ true → kind_code (stop_code w) ≡ 1
 held_one none e = refl
-held_one (some trigger-not-met) e = absurd (false≢true e)
-held_one (some home-not-open) e = absurd (false≢true e)
-held_one (some condition-false) e = absurd (false≢true e)
-held_one (some condition-unknown) e = absurd (false≢true e)
+held_one (some trigger_not_met) e = absurd (false≢true e)
+held_one (some home_not_open) e = absurd (false≢true e)
+held_one (some condition_false) e = absurd (false≢true e)
+held_one (some condition_unknown) e = absurd (false≢true e)
 
 module _ (sh : Sheet) (m : M.Moment) (side : List Bool) (ws : List ℕ) (k : ℕ) (may : allowed m.before k ≡ true) where
   abbrev tells : Test → ℕ

@@ -18,7 +18,7 @@ use Rattle.meaning.specs.Card.{is}
 use Rattle.meaning.specs.Tests.{Test, test_of, rule_tests, rule_line, status_line}
 use Rattle.meaning.specs.Dependency.{tests_for}
 use Rattle.meaning.specs.Step.{Moment, moment, holds}
-use Rattle.meaning.specs.Why.{Stop, trigger-not-met, home-not-open, condition-false, condition-unknown, Kind, held, closed, stopped, Reason, change_of, first_stop, parts_of, lines_for, changed, first_that, closed_by, changed_by, stopped_by, reasons_of, reasons}
+use Rattle.meaning.specs.Why.{Stop, trigger_not_met, home_not_open, condition_false, condition_unknown, Kind, held, closed, stopped, Reason, change_of, first_stop, parts_of, lines_for, changed, first_that, closed_by, changed_by, stopped_by, reasons_of, reasons}
 use Rattle.meaning.specs.Desk.{line_length}
 use Rattle.meaning.specs.Doors.{Case, reasons_in}
 use Rattle.meaning.specs.Clerk.{behind_lines, line_at, kind_words, status_name, over_name, change_sign, rule_told, parent_told, kind_told, why_line}
@@ -34,9 +34,9 @@ use Rattle.theory.specs.Requests.Cases.{at, after}
 
 -- a number for each reason: at most so much for a line, and so much for a closing
 module _ (sh : Sheet) (m : Moment) (after : List Bool) (w : Reason → ℕ) (v : ℕ → ℕ) (c : ℕ)
-    (by-held : (x l : ℕ) → w (record { status = x; line = l; kind = held }) ≤ v l)
+    (by_held : (x l : ℕ) → w (record { status = x; line = l; kind = held }) ≤ v l)
     (by_stop : (x l : ℕ) (s : Stop) → w (record { status = x; line = l; kind = stopped s }) ≤ v l)
-    (by-parent : (x l : ℕ) → w (record { status = x; line = l; kind = closed }) ≤ c) where
+    (by_parent : (x l : ℕ) → w (record { status = x; line = l; kind = closed }) ≤ c) where
   abbrev rules : List Test
   rules = rule_tests sh.heads (rule_line sh.heads) sh.rules
 
@@ -46,7 +46,7 @@ module _ (sh : Sheet) (m : Moment) (after : List Bool) (w : Reason → ℕ) (v :
   closed_most : (x : ℕ) (p : Option ℕ) → total w (closed_by sh m after x p) ≤ c
   unfolding total
   closed_most x none = omega arith
-  closed_most x (some p) = omega (arith, by-parent x (status_line sh.heads p))
+  closed_most x (some p) = omega (arith, by_parent x (status_line sh.heads p))
 
   changed_most : (x : ℕ) (ts : List Test) → total w (changed_by sh m after x (first_that sh m after ts)) ≤ told ts + c
   unfolding total first_that
@@ -55,7 +55,7 @@ module _ (sh : Sheet) (m : Moment) (after : List Bool) (w : Reason → ℕ) (v :
     where
       go : (b : Bool) → total w (changed_by sh m after x (first_that sh m after ts)) ≤ told ts + c
           → total w (changed_by sh m after x (cond b (some t) (first_that sh m after ts))) ≤ v t.line + told ts + c
-      go true h = omega (arith, by-held x t.line)
+      go true h = omega (arith, by_held x t.line)
       go false h = omega arith
 
   stopped_most : (x : ℕ) (ts : List Test) → total w (joined (λ t. stopped_by sh m after x t.line (first_stop (parts_of sh m after t))) ts) ≤ told ts
@@ -146,10 +146,10 @@ status_short hd well = name_short (status_names (statuses hd)) (names_good hd we
 words_short : (k : Kind) → length (kind_words k) ≤ 17
 words_short held = omega arith
 words_short closed = omega arith
-words_short (stopped trigger-not-met) = omega arith
-words_short (stopped home-not-open) = omega arith
-words_short (stopped condition-false) = omega arith
-words_short (stopped condition-unknown) = omega arith
+words_short (stopped trigger_not_met) = omega arith
+words_short (stopped home_not_open) = omega arith
+words_short (stopped condition_false) = omega arith
+words_short (stopped condition_unknown) = omega arith
 
 sign_short : (b : Bool) → length (change_sign b) ≡ 1
 sign_short true = refl

@@ -114,20 +114,20 @@ pub case_apart : (s c e : List ℕ) (k : Case) → read_case s c e ≡ taken k �
 unfolding read_case read_told
 case_apart s c e k q =
     let (a, s-is, q1) = on_taken_lem (read_sheet s) _ k q in
-    let (t, t-is, q2) = on_taken_lem (read_told a.sheet.heads c e) _ k q1 in
-    let (m, c-is, q3) = on_taken_lem (read_card a.sheet.heads c) _ t t-is in
-    let (h, e-is, q4) = on_taken_lem (read_event a.sheet.heads e) _ t q3 in
+    let (t, t_is, q2) = on_taken_lem (read_told a.sheet.heads c e) _ k q1 in
+    let (m, c_is, q3) = on_taken_lem (read_card a.sheet.heads c) _ t t_is in
+    let (h, e_is, q4) = on_taken_lem (read_event a.sheet.heads e) _ t q3 in
     let same : record { card = m; happening = h } ≡ t = taken_same _ t q4 in
     let is : case_of a t ≡ k = taken_same _ k q2 in
-    subst (Apart s c e) (ap (case_of a) same ∙ is) (record { sheet = s-is; card = c-is; event = e-is })
+    subst (Apart s c e) (ap (case_of a) same ∙ is) (record { sheet = s-is; card = c_is; event = e_is })
 
 -- the card and the event line are not long
 pub case_short : (s c e : List ℕ) (k : Case) → read_case s c e ≡ taken k → (length c ≤ card_bytes) × (length e ≤ event_bytes)
 unfolding read_card read_event
 case_short s c e k q =
     let p = case_apart s c e k q in
-    let (a, c-is, r) = on_taken_lem (paper 2 card_bytes (card k.sheet.heads) c) _ k.card p.card in (
-      leb-true (length c) card_bytes (paper_read 2 card_bytes (card k.sheet.heads) c a c-is).0,
+    let (a, c_is, r) = on_taken_lem (paper 2 card_bytes (card k.sheet.heads) c) _ k.card p.card in (
+      leb-true (length c) card_bytes (paper_read 2 card_bytes (card k.sheet.heads) c a c_is).0,
       leb-true (length e) event_bytes
           (paper_read 3 event_bytes (happening k.sheet.heads) e k.happening p.event).0,
     )

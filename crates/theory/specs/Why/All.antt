@@ -13,7 +13,7 @@ use Rattle.meaning.specs.Sheet.{Sheet, statuses, stage_over}
 use Rattle.meaning.specs.Tests.{up, Test, rule_line, tests}
 use Rattle.meaning.specs.Dependency.{tests_for}
 use Rattle.meaning.specs.Step.{Moment, Meets}
-use Rattle.meaning.specs.Why.{Stop, trigger-not-met, home-not-open, condition-false, condition-unknown, Kind, held, closed, stopped, kind_number, Reason, coded, first_stop, change_of, parts_of, lines_for, changed, Says, IsWhy, first_that, closed_by, changed_by, stopped_by, reasons_of, reasons}
+use Rattle.meaning.specs.Why.{Stop, trigger_not_met, home_not_open, condition_false, condition_unknown, Kind, held, closed, stopped, kind_number, Reason, coded, first_stop, change_of, parts_of, lines_for, changed, Says, IsWhy, first_that, closed_by, changed_by, stopped_by, reasons_of, reasons}
 use Rattle.theory.specs.Lists.Members.{in_map, map_in, in_joined, joined_in, map_joined, keep_all, keep_none, keep_joined, from_in, in_from, joined_only}
 use Rattle.theory.specs.Lists.Ascending.{Up, both_up, up_places, up_from, up_equal}
 use Rattle.theory.specs.Papers.Formed.{UnderIn, Well}
@@ -28,10 +28,10 @@ use Rattle.theory.specs.Why.Reasons.{stop_of, reason_says, says_reason, changed_
 pub kind_low : (k : Kind) → (1 ≤ kind_number k) × (kind_number k ≤ 6)
 kind_low held = (omega arith, omega arith)
 kind_low closed = (omega arith, omega arith)
-kind_low (stopped trigger-not-met) = (omega arith, omega arith)
-kind_low (stopped home-not-open) = (omega arith, omega arith)
-kind_low (stopped condition-false) = (omega arith, omega arith)
-kind_low (stopped condition-unknown) = (omega arith, omega arith)
+kind_low (stopped trigger_not_met) = (omega arith, omega arith)
+kind_low (stopped home_not_open) = (omega arith, omega arith)
+kind_low (stopped condition_false) = (omega arith, omega arith)
+kind_low (stopped condition_unknown) = (omega arith, omega arith)
 
 -- the number of a reason, over n statuses, is read back: status, line and kind
 pub record ReadBack (n : ℕ) (r : Reason) : Type 0 where

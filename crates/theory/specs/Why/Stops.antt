@@ -15,7 +15,7 @@ use Rattle.meaning.specs.Card.{is}
 use Rattle.meaning.specs.Tests.{up, down, Test, test_of, rule_tests, rule_line, implied, tests}
 use Rattle.meaning.specs.Dependency.{tests_for}
 use Rattle.meaning.specs.Step.{Moment, allowed, needed, triggered, housed, condition_on, fulfilled, holds}
-use Rattle.meaning.specs.Why.{Stop, trigger-not-met, home-not-open, condition-false, condition-unknown, Part, told_as, first_stop, change_of, parts_of, lines_for, first_that}
+use Rattle.meaning.specs.Why.{Stop, trigger_not_met, home_not_open, condition_false, condition_unknown, Part, told_as, first_stop, change_of, parts_of, lines_for, first_that}
 use Rattle.theory.specs.Lists.Members.{in_left, in_keep, keep_in, keep_append}
 use Rattle.theory.specs.Step.Sides.{allowed_up, allowed_down}
 use Rattle.theory.specs.Step.Tests.{test_of_lem}
@@ -152,15 +152,15 @@ module _ (sh : Sheet) (m : Moment) (after : List Bool) where
   line_holds x t i =
       let (a, n) = line_free x t i in rw (a, n) (go (triggered m after t.trigger) (housed m after t.home) (condition_on m after t.condition))
     where
-      go : (a b : Bool) (k : Kleene) → (first_stop (record { value = known₃ a; if_false = trigger-not-met; if_unknown = trigger-not-met }
-          ∷ record { value = known₃ b; if_false = home-not-open; if_unknown = home-not-open }
-          ∷ record { value = k; if_false = condition-false; if_unknown = condition-unknown }
+      go : (a b : Bool) (k : Kleene) → (first_stop (record { value = known₃ a; if_false = trigger_not_met; if_unknown = trigger_not_met }
+          ∷ record { value = known₃ b; if_false = home_not_open; if_unknown = home_not_open }
+          ∷ record { value = k; if_false = condition_false; if_unknown = condition_unknown }
           ∷ []) ≡ none) ↔ (a && b && is_true k ≡ true)
       go true true true₃ = (λ e. refl, λ e. refl)
-      go true true false₃ = (λ e. absurd (some-ne-none condition-false e), λ e. absurd (false≢true e))
-      go true true unknown = (λ e. absurd (some-ne-none condition-unknown e), λ e. absurd (false≢true e))
-      go true false k = (λ e. absurd (some-ne-none home-not-open e), λ e. absurd (false≢true e))
-      go false b k = (λ e. absurd (some-ne-none trigger-not-met e), λ e. absurd (false≢true e))
+      go true true false₃ = (λ e. absurd (some-ne-none condition_false e), λ e. absurd (false≢true e))
+      go true true unknown = (λ e. absurd (some-ne-none condition_unknown e), λ e. absurd (false≢true e))
+      go true false k = (λ e. absurd (some-ne-none home_not_open e), λ e. absurd (false≢true e))
+      go false b k = (λ e. absurd (some-ne-none trigger_not_met e), λ e. absurd (false≢true e))
 
   -- THE FIRST LINE THAT HELD
 
