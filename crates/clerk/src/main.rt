@@ -3,95 +3,103 @@
 #![tactic(auto)]
 
 ghost use Rattle.std.specs.Prelude.{◌≤◌, length};
-ghost use Rattle.desk_rooms.specs.Rooms.{why_room, card_room, named_room, check_room};
 
-use std::alloc::{AllocError, Global};
 use std::env::Env as _;
-use std::io::Read;
+use std::io::{ErrorKind, Read};
 
-// Prints why each status changed, or did not, by way of this space. A closed output does no harm.
-fn tell_why(rt: &impl Print, input: &[u8], out: &mut [u8])
-    requires { why_room ≤ length out.old }
-{
-    let n = clerk_why::why_output(input, out);
+// Prints why each status changed, or did not. A closed output does no harm.
+fn tell_why(rt: &impl Print, input: &[u8]) {
+    let mut out = [0u8; desk_rooms::WHY];
+    let n = clerk_why::why_output(input, &mut out);
     let _ = rt.write_all(&out[..n]);
 }
 
 // Prints the next card.
-fn tell_card(rt: &impl Print, input: &[u8], out: &mut [u8])
-    requires { card_room ≤ length out.old }
-{
-    let n = clerk_card::card_output(input, out);
+fn tell_card(rt: &impl Print, input: &[u8]) {
+    let mut out = [0u8; desk_rooms::CARD];
+    let n = clerk_card::card_output(input, &mut out);
     let _ = rt.write_all(&out[..n]);
 }
 
-// Prints what may still come, in names.
-fn tell_outlook(rt: &impl Print, input: &[u8], out: &mut [u8])
-    requires { named_room ≤ length out.old }
-{
+// Prints what may still come, in names, by way of this space.
+fn tell_names(rt: &impl Print, input: &[u8], out: &mut [u8; desk_rooms::NAMED]) {
     let n = clerk_outlook::outlook_output(input, out);
-    let _ = rt.write_all(&out[..n]);
+    let all = &out[..];
+    let _ = rt.write_all(&all[..n]);
+}
+
+// The same. The large array stands here, so that the other words do not need its stack.
+fn tell_outlook(rt: &impl Print, input: &[u8]) {
+    let mut out = [0u8; desk_rooms::NAMED];
+    tell_names(rt, input, &mut out);
 }
 
 // Prints what a sheet holds, or where its circle is.
-fn tell_check(rt: &impl Print, input: &[u8], out: &mut [u8])
-    requires { check_room ≤ length out.old }
-{
-    let n = clerk_check::check_output(input, out);
+fn tell_check(rt: &impl Print, input: &[u8]) {
+    let mut out = [0u8; desk_rooms::CHECK];
+    let n = clerk_check::check_output(input, &mut out);
     let _ = rt.write_all(&out[..n]);
 }
 
 // Prints a sheet's card with nothing known yet.
-fn tell_blank(rt: &impl Print, input: &[u8], out: &mut [u8])
-    requires { card_room ≤ length out.old }
-{
-    let n = clerk_check::blank_output(input, out);
+fn tell_blank(rt: &impl Print, input: &[u8]) {
+    let mut out = [0u8; desk_rooms::CARD];
+    let n = clerk_check::blank_output(input, &mut out);
     let _ = rt.write_all(&out[..n]);
 }
 
-// The whole input, or its first `most` bytes. A read that fails ends it. There is room for more before the first one, so that none fails for
-// want of memory.
-fn read_up_to(alloc: Global, reader: impl Read + Drop, most: usize) -> Result<Vec<u8>, AllocError> {
-    let mut input = Vec::with_capacity(alloc, most.saturating_add(1))?;
-    let _ = reader.take(most as u64).read_to_end(&mut input);
-    Ok(input)
+// Reads until the space is full or the input ends, and tells how much came. A read that fails ends it.
+fn read_full<R: Read>(from: &mut R, space: &mut [u8]) -> usize
+    ensures { result ≤ length space.new }
+{
+    let mut n = 0;
+    for _ in 0..u64::MAX {
+        if n == space.len() {
+            return n;
+        }
+        match from.read(&mut space[n..]) {
+            Ok(0) => return n,
+            Ok(k) => n += k,
+            Err(error) => {
+                if error.kind() != ErrorKind::Interrupted {
+                    return n;
+                }
+            }
+        }
+    }
+    n
 }
 
 // The requests for three papers. One byte more than is taken is read, so that a longer input is told as LONG.
-fn why(rt: &(impl Input + Print + AllocGlobal)) -> Result<(), AllocError> {
-    let input = read_up_to(rt.alloc(), rt.reader(), limits::DESK_BYTES + 1)?;
-    let mut out = vec![in rt.alloc(); 0u8; desk_rooms::WHY]?;
-    tell_why(rt, &input, &mut out);
-    Ok(())
+fn why(rt: &(impl Input + Print)) {
+    let mut input = [0u8; limits::DESK_BYTES + 1];
+    let n = read_full(&mut rt.reader(), &mut input);
+    tell_why(rt, &input[..n]);
 }
 
-fn card(rt: &(impl Input + Print + AllocGlobal)) -> Result<(), AllocError> {
-    let input = read_up_to(rt.alloc(), rt.reader(), limits::DESK_BYTES + 1)?;
-    let mut out = vec![in rt.alloc(); 0u8; desk_rooms::CARD]?;
-    tell_card(rt, &input, &mut out);
-    Ok(())
+fn card(rt: &(impl Input + Print)) {
+    let mut input = [0u8; limits::DESK_BYTES + 1];
+    let n = read_full(&mut rt.reader(), &mut input);
+    tell_card(rt, &input[..n]);
 }
 
-fn outlook(rt: &(impl Input + Print + AllocGlobal)) -> Result<(), AllocError> {
-    let input = read_up_to(rt.alloc(), rt.reader(), limits::DESK_BYTES + 1)?;
-    let mut out = vec![in rt.alloc(); 0u8; desk_rooms::NAMED]?;
-    tell_outlook(rt, &input, &mut out);
-    Ok(())
+fn outlook(rt: &(impl Input + Print)) {
+    let mut input = [0u8; limits::DESK_BYTES + 1];
+    let n = read_full(&mut rt.reader(), &mut input);
+    tell_outlook(rt, &input[..n]);
 }
 
 // Those for a sheet alone, likewise.
-fn check(rt: &(impl Input + Print + AllocGlobal)) -> Result<(), AllocError> {
-    let input = read_up_to(rt.alloc(), rt.reader(), limits::SHEET_BYTES + 1)?;
-    let mut out = vec![in rt.alloc(); 0u8; desk_rooms::CHECK]?;
-    tell_check(rt, &input, &mut out);
-    Ok(())
+fn check(rt: &(impl Input + Print)) {
+    let mut input = [0u8; limits::SHEET_BYTES + 1];
+    let n = read_full(&mut rt.reader(), &mut input);
+    tell_check(rt, &input[..n]);
 }
 
-fn blank(rt: &(impl Input + Print + AllocGlobal)) -> Result<(), AllocError> {
-    let input = read_up_to(rt.alloc(), rt.reader(), limits::SHEET_BYTES + 1)?;
-    let mut out = vec![in rt.alloc(); 0u8; desk_rooms::CARD]?;
-    tell_blank(rt, &input, &mut out);
-    Ok(())
+fn blank(rt: &(impl Input + Print)) {
+    let mut input = [0u8; limits::SHEET_BYTES + 1];
+    let n = read_full(&mut rt.reader(), &mut input);
+    tell_blank(rt, &input[..n]);
 }
 
 // What there is, a line for each word.
@@ -111,29 +119,33 @@ fn is(word: &[u8], k: &[u8]) -> bool {
 }
 
 // The request with a word; where there is none, nothing is read.
-fn request(rt: &(impl Input + Print + AllocGlobal), word: &[u8]) -> Result<(), AllocError> {
+fn request(rt: &(impl Input + Print), word: &[u8]) {
     if is(word, b"why") {
-        return why(rt);
+        why(rt);
+        return;
     }
     if is(word, b"card") {
-        return card(rt);
+        card(rt);
+        return;
     }
     if is(word, b"outlook") {
-        return outlook(rt);
+        outlook(rt);
+        return;
     }
     if is(word, b"check") {
-        return check(rt);
+        check(rt);
+        return;
     }
     if is(word, b"blank") {
-        return blank(rt);
+        blank(rt);
+        return;
     }
     words(rt);
-    Ok(())
 }
 
 // A word that is missing, or longer than any that there is, is told as none.
-fn main(rt: HostRuntime) -> Result<(), AllocError> {
+fn main(rt: HostRuntime) {
     let mut word = [0u8; 16];
     let n = rt.arg(1, &mut word).unwrap_or(0);
-    request(&rt, &word[..n])
+    request(&rt, &word[..n]);
 }

@@ -2,31 +2,41 @@
 #![tactic(auto)]
 
 ghost use Rattle.std.specs.Prelude.{◌≤◌, length};
-ghost use Rattle.desk_rooms.specs.Rooms.{desk_room};
 
-use std::alloc::{AllocError, Global};
-use std::io::Read;
+use std::io::{ErrorKind, Read};
 
-// Prints what comes of the whole input, by way of this space. A closed output does no harm.
-fn answer(rt: &impl Print, input: &[u8], out: &mut [u8])
-    requires { desk_room ≤ length out.old }
-{
-    let n = desk_output::desk_output(input, out);
+// Prints what comes of the whole input. A closed output does no harm.
+fn answer(rt: &impl Print, input: &[u8]) {
+    let mut out = [0u8; desk_rooms::DESK];
+    let n = desk_output::desk_output(input, &mut out);
     let _ = rt.write_all(&out[..n]);
 }
 
-// The whole input, or its first `most` bytes. A read that fails ends it. There is room for more before the first one, so that none fails for
-// want of memory.
-fn read_up_to(alloc: Global, reader: impl Read + Drop, most: usize) -> Result<Vec<u8>, AllocError> {
-    let mut input = Vec::with_capacity(alloc, most.saturating_add(1))?;
-    let _ = reader.take(most as u64).read_to_end(&mut input);
-    Ok(input)
+// Reads until the space is full or the input ends, and tells how much came. A read that fails ends it.
+fn read_full<R: Read>(from: &mut R, space: &mut [u8]) -> usize
+    ensures { result ≤ length space.new }
+{
+    let mut n = 0;
+    for _ in 0..u64::MAX {
+        if n == space.len() {
+            return n;
+        }
+        match from.read(&mut space[n..]) {
+            Ok(0) => return n,
+            Ok(k) => n += k,
+            Err(error) => {
+                if error.kind() != ErrorKind::Interrupted {
+                    return n;
+                }
+            }
+        }
+    }
+    n
 }
 
 // One byte more than is taken is read, so that a longer input is told as LONG.
-fn main(rt: HostRuntime) -> Result<(), AllocError> {
-    let input = read_up_to(rt.alloc(), rt.reader(), limits::DESK_BYTES + 1)?;
-    let mut out = vec![in rt.alloc(); 0u8; desk_rooms::DESK]?;
-    answer(&rt, &input, &mut out);
-    Ok(())
+fn main(rt: HostRuntime) {
+    let mut input = [0u8; limits::DESK_BYTES + 1];
+    let n = read_full(&mut rt.reader(), &mut input);
+    answer(&rt, &input[..n]);
 }

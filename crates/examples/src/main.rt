@@ -2,48 +2,77 @@
 #![tactic(auto)]
 
 ghost use Rattle.std.specs.Prelude.{◌≤◌, length};
-ghost use Rattle.desk_rooms.specs.Rooms.{desk_room};
 
-use std::alloc::{AllocError, Global};
-use std::io::Read;
+use std::env::{Env, FillError};
+use std::io::{ErrorKind, Read};
 use std::rt::Files;
-use std::{env, fs, io};
+use std::{fs, str};
 
-// Prints what comes of the whole input, by way of this space.
-fn answer(rt: &impl Print, input: &[u8], out: &mut [u8])
-    requires { desk_room ≤ length out.old }
-{
-    let n = desk_output::desk_output(input, out);
+// Prints what comes of the whole input.
+fn answer(rt: &impl Print, input: &[u8]) {
+    let mut out = [0u8; desk_rooms::DESK];
+    let n = desk_output::desk_output(input, &mut out);
     let _ = rt.write_all(&out[..n]);
 }
 
-// The whole file, or its first `most` bytes. A read that fails ends it. There is room for more before the first one, so that none fails for
-// want of memory.
-fn read_up_to(alloc: Global, reader: impl Read + Drop, most: usize) -> Result<Vec<u8>, AllocError> {
-    let mut input = Vec::with_capacity(alloc, most.saturating_add(1))?;
-    let _ = reader.take(most as u64).read_to_end(&mut input);
-    Ok(input)
+// Reads until the space is full or the input ends, and tells how much came. A read that fails ends it.
+fn read_full<R: Read>(from: &mut R, space: &mut [u8]) -> usize
+    ensures { result ≤ length space.new }
+{
+    let mut n = 0;
+    for _ in 0..u64::MAX {
+        if n == space.len() {
+            return n;
+        }
+        match from.read(&mut space[n..]) {
+            Ok(0) => return n,
+            Ok(k) => n += k,
+            Err(error) => {
+                if error.kind() != ErrorKind::Interrupted {
+                    return n;
+                }
+            }
+        }
+    }
+    n
 }
 
 // A file by its name. One that can't be opened is told on standard error.
-fn file(rt: &(impl Files + Print + Eprint + AllocGlobal), path: &str) -> Result<(), AllocError> {
-    let opened = match fs::open(rt, path) {
+fn file(rt: &(impl Files + Print + Eprint), path: &str) {
+    let mut opened = match fs::open(rt, path) {
         Ok(opened) => opened,
         Err(error) => {
             let _ = eprintln!(rt; "{path}: {error}");
-            return Ok(());
+            return;
         }
     };
-    let input = read_up_to(rt.alloc(), opened, limits::DESK_BYTES + 1)?;
-    let mut out = vec![in rt.alloc(); 0u8; desk_rooms::DESK]?;
+    let mut input = [0u8; limits::DESK_BYTES + 1];
+    let n = read_full(&mut opened, &mut input);
     let _ = rt.println(path);
-    answer(rt, &input, &mut out);
-    Ok(())
+    answer(rt, &input[..n]);
 }
 
-fn main(rt: HostRuntime) -> io::Result<()> {
-    for path in env::args(&rt)?.skip(1) {
-        file(&rt, &path)?;
+// The file that argument i names, and whether there is such an argument. A name that is no text, or too long for a path, is told on standard error.
+fn named(rt: &(impl Env + Files + Print + Eprint), i: usize) -> bool {
+    let mut path = [0u8; 4096];
+    let length = match rt.arg(i, &mut path) {
+        Ok(length) => length,
+        Err(FillError::NotPresent) => return false,
+        Err(FillError::TooLong) => 0,
+    };
+    match str::from_utf8(&path[..length]) {
+        Ok(text) => file(rt, text),
+        Err(_) => {
+            let _ = rt.eprintln("a name that is no text");
+        }
     }
-    Ok(())
+    true
+}
+
+fn main(rt: HostRuntime) {
+    for i in 1..usize::MAX {
+        if !named(&rt, i) {
+            return;
+        }
+    }
 }
