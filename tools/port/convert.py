@@ -11,6 +11,7 @@ import os
 import re
 import subprocess
 import sys
+import tempfile
 
 NAME = r"[^\W\d][\w'₀-]*"
 WORD = re.compile(r"[^\W\d][\w'₀-]*", re.UNICODE)
@@ -175,16 +176,14 @@ def turn(crate, folder, text, entry):
 
 
 def generated(crate):
-    into = f"/tmp/names/{crate}"
-    subprocess.run(["rm", "-rf", into])
-    os.makedirs("/tmp/names", exist_ok=True)
-    r = subprocess.run(["rt", "check", "--generated", into, "--old-names"], cwd=f"crates/{crate}", capture_output=True, text=True)
-    try:
-        with open(os.path.join(into, "names.json")) as f:
-            return json.load(f)
-    except OSError:
-        print(r.stdout[-2000:], r.stderr[-2000:])
-        raise SystemExit(f"{crate}: no names")
+    with tempfile.TemporaryDirectory() as into:
+        r = subprocess.run(["rt", "check", "--generated", into, "--old-names"], cwd=f"crates/{crate}", capture_output=True, text=True)
+        try:
+            with open(os.path.join(into, "names.json")) as f:
+                return json.load(f)
+        except OSError:
+            print(r.stdout[-2000:], r.stderr[-2000:])
+            raise SystemExit(f"{crate}: no names")
 
 
 def attribute(crate):
