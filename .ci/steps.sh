@@ -121,6 +121,11 @@ before_proofs() {
     step 'the gate itself' tests/gate
 }
 
+# The programs, put where the commands look for them by the commands themselves: each says so once, on standard error.
+programs() {
+    ./desk examples/parcel.sheet examples/parcel.card examples/looked-900.event >/dev/null && ./clerk check examples/parcel.sheet >/dev/null
+}
+
 # What needs the archive or the programs.
 behind_proofs() {
     step 'the archive' ./archive
@@ -132,6 +137,7 @@ behind_proofs() {
     step "comparison with the second implementation, fresh seed $seed" compare "$seed" "$fresh_cases"
     step 'tests of rust/ with the archive' cargo_tests rust --release --features desk
     step 'the library from C' tests/c "$archive" "${archive_words[@]}"
+    step 'the programs' programs
     step 'the commands with the real programs' tests/real
     step 'the examples of docs/SHEET.md with the real programs' tests/page
 }
