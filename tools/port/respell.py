@@ -39,8 +39,8 @@ OTHERS = {
 
 # Constructors and parameters, which no line of their own declares.
 BOUND = """
-by-held by-parent c-is c-same card-told condition-false condition-unknown e-is event-told few-tests flat-room flat-was h-is h-same home-not-open in-
-run lens-was m-is namedLeaf none-joining none-there not-due of-missing old-is order-at p-is paper-is plan-is rest-2 rules-are so-far sum-2 t-is
+by-held by-parent c-is c-same card-told condition-false condition-unknown e-is event-told few-tests flat-room flat-was h-is h-same home-not-open
+in-run lens-was m-is namedLeaf none-joining none-there not-due of-missing old-is order-at p-is paper-is plan-is rest-2 rules-are so-far sum-2 t-is
 trigger-not-met zero-i
 """.split()
 
