@@ -1,14 +1,15 @@
 -- No second answer fits: each public function's contract determines what it answers.
 use Rattle.theory.specs.Determined.{Determines, only}
-use Rattle.card_lines.proofs.bytes_fault.Reads as BytesFault
+use Rattle.card_lines.proofs.on_line.Reads as OnLine
 use Rattle.card_lines.proofs.line_end.Reads as LineEnd
 use Rattle.card_lines.proofs.field_line.Reads as FieldLine
 use Rattle.card_lines.proofs.mark_line.Reads as MarkLine
 use Rattle.card_lines.proofs.put_piece.Reads as PutPiece
 use Rattle.card_lines.proofs.case_line.Reads as CaseLine
 
-pub bytes_fault_only : Determines BytesFault.Learnt
-bytes_fault_only κs a r q s t = only
+-- at every type
+pub on_line_only : (T : _) (L : _) → Determines (OnLine.Learnt T L)
+on_line_only T L κs a r q s t = only
 
 pub line_end_only : Determines LineEnd.Learnt
 line_end_only κs a r q s t = only

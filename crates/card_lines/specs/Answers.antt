@@ -1,32 +1,25 @@
 -- What the code answers for what the meaning reads: one function for each type of answer.
-use Rattle.std.specs.Prelude.{ℕ, Bool, List, length}
-use Rattle.meaning.specs.Reading.{Got, got, wrong}
+use Rattle.std.specs.Prelude.{ℕ, Bool, List, length, Result, Ok, Err}
+use Rattle.meaning.specs.Reading.{Got}
 use Rattle.meaning.specs.Number.{Entry}
-use Rattle.theory.specs.Reading.Answer.{as_read}
-use Rattle.text.specs.declared.Bytes.{Bytes}
-use Rattle.text.specs.declared.Bytes.TheVariants as B
+use Rattle.theory.specs.Reading.Piece.{as_piece}
+use Rattle.reply.specs.declared.Fault.{Fault}
+use Rattle.reply.specs.declared.Wrong.{Wrong}
+use Rattle.reply.specs.Faults.{fault_of}
+use Rattle.text.specs.declared.Taken.{Taken}
+use Rattle.text.specs.Pieces.{as_taken}
 use Rattle.marks.specs.Codes.{mark_code, coded}
-use Rattle.number.specs.declared.EntryPiece.{EntryPiece}
-use Rattle.number.specs.declared.EntryPiece.TheVariants as E
-use Rattle.card_lines.specs.declared.ValuePiece.{ValuePiece}
-use Rattle.card_lines.specs.declared.ValuePiece.TheVariants as VP
-use Rattle.card_lines.specs.declared.MarkPiece.{MarkPiece}
-use Rattle.card_lines.specs.declared.MarkPiece.TheVariants as M
+use Rattle.card_lines.specs.declared.Shown.{Shown}
 
--- the number of a refusal
-abbrev pub bytes_fault : Bytes → ℕ
-bytes_fault (B.Read n) = 0
-bytes_fault (B.Refused k) = k
-
-abbrev pub entry_fault : EntryPiece → ℕ
-entry_fault (E.Entry v n) = 0
-entry_fault (E.Refused k) = k
-
--- a value of s, that stands behind so many bytes, and the length of its text
-abbrev pub as_value : ℕ → Got Entry → ValuePiece
-as_value n (got e l t) = VP.Value (coded e.value) n (length e.shown)
-as_value n (wrong k l) = VP.Refused k
+-- a value that stands behind so many bytes, and the length of its text
+abbrev pub as_value : ℕ → List ℕ → Got Entry → Result Shown Fault
+as_value p = as_piece (λ e n. record { value = coded e.value; start = p; length = length e.shown }) fault_of
 
 -- the mark of a status, and the bytes that it took
-abbrev pub as_mark : List ℕ → Got Bool → MarkPiece
-as_mark = as_read (λ b n. M.Mark (mark_code b) n) M.Refused
+abbrev pub as_mark : List ℕ → Got Bool → Result (Taken ℕ) Fault
+as_mark = as_taken mark_code
+
+-- what a piece says, whose fault is one of this line
+abbrev pub on_line : {A : Type 0} → Result A Fault → ℕ → Result A Wrong
+on_line (Ok a) l = Ok a
+on_line (Err e) l = Err (record { fault = e; line = l })

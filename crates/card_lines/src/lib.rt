@@ -5,161 +5,120 @@ ghost use Rattle.std.specs.Prelude.{◌≡◌, ◌+◌, length};
 ghost use Rattle.meaning.specs.Refusal.{LINE};
 ghost use Rattle.meaning.specs.Reading.{one_of, line_end};
 ghost use Rattle.meaning.specs.Card.{keyed, field_entry, status_mark, marks, ended, case_line, spaced};
-ghost use Rattle.text.specs.Answers.{as_bytes};
+ghost use Rattle.text.specs.Pieces.{as_length};
 ghost use Rattle.name.specs.Names.{name_of};
-ghost use Rattle.card_lines.specs.Answers.{bytes_fault, entry_fault, as_value, as_mark};
+ghost use Rattle.card_lines.specs.Answers.{as_value, as_mark, on_line};
 
 use name::Name;
-use number::EntryPiece;
-use text::Bytes;
+use reply::{Fault, Wrong};
+use text::Taken;
 
-// `NAME=` and a value: the value, behind how many bytes its text stands and how long that is; or the refusal's number.
+// What stands behind `NAME=`: the value, behind how many bytes its text stands and how long that is.
 #[derive(Clone, Copy)]
-pub enum ValuePiece {
-    Value(u64, usize, usize),
-    Refused(u8),
+pub struct Shown {
+    pub value: u64,
+    pub start: usize,
+    pub length: usize,
 }
 
-// The mark of a status, and how many bytes it took; or the refusal's number.
-#[derive(Clone, Copy)]
-pub enum MarkPiece {
-    Mark(u8, usize),
-    Refused(u8),
-}
-
-// The number of a refused piece; 0 where it was read.
-pub fn bytes_fault(p: Bytes) -> u8
-    ensures { result ≡ bytes_fault p }
+// What a piece of the line `line` says: its fault is told with that line.
+pub fn on_line<T>(p: Result<T, Fault>, line: usize) -> Result<T, Wrong>
+    ensures { result ≡ on_line p line }
 {
-    match p {
-        Bytes::Read(_) => 0,
-        Bytes::Refused(k) => k,
-    }
-}
-
-fn entry_fault(p: EntryPiece) -> u8
-    ensures { result ≡ entry_fault p }
-{
-    match p {
-        EntryPiece::Entry(_, _) => 0,
-        EntryPiece::Refused(k) => k,
-    }
+    p.map_err(|fault| Wrong { fault, line })
 }
 
 // The LF that is due at the start of `s`.
-pub fn line_end(s: &[u8]) -> Bytes
-    ensures { result ≡ as_bytes s.now (line_end LINE 0 s.now) }
+#[tactic(auto, using(crate::proofs::Pieces::line_is))]
+pub fn line_end(s: &[u8]) -> Result<usize, Fault>
+    ensures { result ≡ as_length s.now (line_end LINE 0 s.now) }
 {
-    text::due_text(s, b"\n", reply::LINE)
+    text::due_text(s, b"\n", Fault::Line)
 }
 
 // The name that is due at the start of `s`, and `=`.
-fn key(s: &[u8], due: Name) -> Bytes
-    ensures { result ≡ as_bytes s.now (keyed (name_of due) 0 s.now) }
+fn key(s: &[u8], due: Name) -> Result<usize, Fault>
+    ensures { result ≡ as_length s.now (keyed (name_of due) 0 s.now) }
 {
-    let p = name::due_name(s, due);
-    let Bytes::Read(n) = p else {
-        return p;
-    };
-    let q = text::due_text(text::rest(s, n), b"=", reply::LINE);
-    let Bytes::Read(k) = q else {
-        return q;
-    };
-    Bytes::Read(n + k)
+    let n = name::due_name(s, due)?;
+    let k = text::due_text(text::rest(s, n), b"=", Fault::Line)?;
+    Ok(n + k)
 }
 
 // The name that is due, `=` and a value.
-fn field_value(s: &[u8], due: Name) -> ValuePiece
-    ensures { result ≡ as_value (length (name_of due) + 1) (field_entry (name_of due) 0 s.now) }
+fn field_value(s: &[u8], due: Name) -> Result<Shown, Fault>
+    ensures { result ≡ as_value (length (name_of due) + 1) s.now (field_entry (name_of due) 0 s.now) }
 {
-    let p = key(s, due);
-    let Bytes::Read(n) = p else {
-        return ValuePiece::Refused(bytes_fault(p));
-    };
-    let e = number::entry_piece(text::rest(s, n));
-    let EntryPiece::Entry(v, k) = e else {
-        return ValuePiece::Refused(entry_fault(e));
-    };
-    ValuePiece::Value(v, n, k)
+    let start = key(s, due)?;
+    let e = number::entry_piece(text::rest(s, start))?;
+    Ok(Shown {
+        value: e.value,
+        start,
+        length: e.bytes,
+    })
 }
 
 // A line of the card for a field.
-pub fn field_line(s: &[u8], due: Name) -> ValuePiece
-    ensures { result ≡ as_value (length (name_of due) + 1) (ended (field_entry (name_of due)) 0 s.now) }
+pub fn field_line(s: &[u8], due: Name) -> Result<Shown, Fault>
+    ensures { result ≡ as_value (length (name_of due) + 1) s.now (ended (field_entry (name_of due)) 0 s.now) }
 {
-    let p = field_value(s, due);
-    let ValuePiece::Value(v, n, k) = p else {
-        return p;
-    };
-    let e = line_end(text::rest(s, n + k));
-    let Bytes::Read(_) = e else {
-        return ValuePiece::Refused(bytes_fault(e));
-    };
-    ValuePiece::Value(v, n, k)
+    let v = field_value(s, due)?;
+    line_end(text::rest(s, v.start + v.length))?;
+    Ok(v)
 }
 
 // `yes` or `no`.
-fn mark_piece(s: &[u8]) -> MarkPiece
+#[tactic(auto, using(crate::proofs::Pieces::wording))]
+fn mark_piece(s: &[u8]) -> Result<Taken<u8>, Fault>
     ensures { result ≡ as_mark s.now (one_of LINE marks 0 s.now) }
 {
     if text::starts(s, b"yes") {
-        return MarkPiece::Mark(marks::YES, 3);
+        return Ok(Taken {
+            value: marks::YES,
+            bytes: 3,
+        });
     }
     if text::starts(s, b"no") {
-        return MarkPiece::Mark(marks::NO, 2);
+        return Ok(Taken {
+            value: marks::NO,
+            bytes: 2,
+        });
     }
-    MarkPiece::Refused(reply::LINE)
+    Err(Fault::Line)
 }
 
 // A line of the card for a status.
-pub fn mark_line(s: &[u8], due: Name) -> MarkPiece
+pub fn mark_line(s: &[u8], due: Name) -> Result<Taken<u8>, Fault>
     ensures { result ≡ as_mark s.now (ended (status_mark (name_of due)) 0 s.now) }
 {
-    let p = key(s, due);
-    let Bytes::Read(n) = p else {
-        return MarkPiece::Refused(bytes_fault(p));
-    };
-    let m = mark_piece(text::rest(s, n));
-    let MarkPiece::Mark(b, k) = m else {
-        return m;
-    };
-    let e = line_end(text::rest(s, n + k));
-    let Bytes::Read(o) = e else {
-        return MarkPiece::Refused(bytes_fault(e));
-    };
-    MarkPiece::Mark(b, n + k + o)
+    let n = key(s, due)?;
+    let m = mark_piece(text::rest(s, n))?;
+    let e = line_end(text::rest(s, n + m.bytes))?;
+    Ok(Taken {
+        value: m.value,
+        bytes: n + m.bytes + e,
+    })
 }
 
 // A space, the name that is due, `=` and a value.
-pub fn put_piece(s: &[u8], due: Name) -> ValuePiece
-    ensures { result ≡ as_value (length (name_of due) + 2) (spaced (name_of due) 0 s.now) }
+pub fn put_piece(s: &[u8], due: Name) -> Result<Shown, Fault>
+    ensures { result ≡ as_value (length (name_of due) + 2) s.now (spaced (name_of due) 0 s.now) }
 {
-    let p = text::due_text(s, b" ", reply::LINE);
-    let Bytes::Read(o) = p else {
-        return ValuePiece::Refused(bytes_fault(p));
-    };
-    let q = field_value(text::rest(s, o), due);
-    let ValuePiece::Value(v, n, k) = q else {
-        return q;
-    };
-    ValuePiece::Value(v, o + n, k)
+    let n = text::due_text(s, b" ", Fault::Line)?;
+    let v = field_value(text::rest(s, n), due)?;
+    Ok(Shown {
+        value: v.value,
+        start: n + v.start,
+        length: v.length,
+    })
 }
 
 // The first line of a card: `case=` and the model's name.
-pub fn case_line(s: &[u8], model: Name) -> Bytes
-    ensures { result ≡ as_bytes s.now (case_line (name_of model) 0 s.now) }
+pub fn case_line(s: &[u8], model: Name) -> Result<usize, Fault>
+    ensures { result ≡ as_length s.now (case_line (name_of model) 0 s.now) }
 {
-    let p = text::due_text(s, b"case=", reply::LINE);
-    let Bytes::Read(n) = p else {
-        return p;
-    };
-    let q = name::due_name(text::rest(s, n), model);
-    let Bytes::Read(k) = q else {
-        return q;
-    };
-    let e = line_end(text::rest(s, n + k));
-    let Bytes::Read(o) = e else {
-        return e;
-    };
-    Bytes::Read(n + k + o)
+    let n = text::due_text(s, b"case=", Fault::Line)?;
+    let k = name::due_name(text::rest(s, n), model)?;
+    let e = line_end(text::rest(s, n + k))?;
+    Ok(n + k + e)
 }

@@ -1,20 +1,29 @@
 -- For callers: what an answer of this crate tells of the meaning, without a look into it.
 use Prim.Native.Nat.{ℕ}
-use mathlib.Core.Path.{◌≡◌, refl, ap}
+use mathlib.Core.Path.{◌≡◌, sym, ◌∙◌, ap}
 use mathlib.Core.List.{List}
+use Rattle.std.specs.Prelude.{Result, Ok, Err}
 use Rattle.meaning.specs.Refusal.{taken, refused}
 use Rattle.meaning.specs.Sheet.{Heads}
 use Rattle.meaning.specs.Card as M
-use Rattle.theory.specs.Requests.Numbers.{card_tells, told_taken, told_refused}
-use Rattle.card_read.specs.declared.CardRead.{CardRead}
-use Rattle.card_read.specs.Answers.{as_card_read}
+use Rattle.theory.specs.Requests.Numbers.{card_tells}
+use Rattle.reply.specs.declared.Wrong.{Wrong}
+use Rattle.reply.specs.Faults.{wrong_of}
+use Rattle.case_tables.specs.declared.Card.{Card}
 use Rattle.case_tables.specs.Cards.{as_card}
+use Rattle.card_lines.proofs.Papers.{paper_took, paper_refuses}
+use Rattle.card_read.specs.Answers.{as_card_read}
 
-module _ (hd : Heads) (s : List ℕ) (r : CardRead) (is : r ≡ as_card_read hd (M.read_card hd s)) where
-  pub card_taken : r.number ≡ 0 → (c : M.Card) × (M.read_card hd s ≡ taken c) × (r.card ≡ as_card hd c)
-  card_taken z =
-      let (c, e, q) = told_taken (as_card_read hd) (λ r. r.number) (λ r. r.line) (λ c. refl) (λ n p l. (refl, refl)) (card_tells hd s) r is z in
-      (c, e, ap (λ r. r.card) q)
+module _ (hd : Heads) (s : List ℕ) (r : Result Card Wrong) (is : r ≡ as_card_read hd (M.read_card hd s)) where
+  pub card_taken : (c : Card) → r ≡ Ok c → (a : M.Card) × (M.read_card hd s ≡ taken a) × (c ≡ as_card hd a)
+  card_taken = paper_took (as_card hd) (λ n p l. wrong_of n l) (M.read_card hd s) r is
 
-  pub card_refused : (r.number ≡ 0 → ⊥) → M.read_card hd s ≡ refused r.number 2 r.line
-  card_refused = told_refused (as_card_read hd) (λ r. r.number) (λ r. r.line) (λ c. refl) (λ n p l. (refl, refl)) (card_tells hd s) r is
+  pub card_refused : (w : Wrong) → r ≡ Err w → (n : ℕ) × (w ≡ wrong_of n w.line) × (M.read_card hd s ≡ refused n 2 w.line)
+  card_refused w e = go (paper_refuses (as_card hd) (λ n p l. wrong_of n l) (M.read_card hd s) r is w e)
+    where
+      go : (n : ℕ) × (p : ℕ) × (l : ℕ) × (M.read_card hd s ≡ refused n p l) × (w ≡ wrong_of n l)
+          → (n : ℕ) × (w ≡ wrong_of n w.line) × (M.read_card hd s ≡ refused n 2 w.line)
+      go (n, p, l, x, y) =
+          let z : p ≡ 2 = ((card_tells hd s).told n p l x).2 in
+          let line : l ≡ w.line = sym (ap (λ w. w.line) y) in
+          (n, y ∙ ap (λ l. wrong_of n l) line, x ∙ ap (λ p. refused n p l) z ∙ ap (λ l. refused n 2 l) line)

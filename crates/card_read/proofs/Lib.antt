@@ -1,4 +1,5 @@
 -- The functions, and what callers use:
+pub mod Lines
 pub mod Fields
 pub mod Marks
 pub mod Cards

@@ -12,6 +12,7 @@ use lib.ListN.{length, take, drop, get_or, set, replicate, length-drop, get_or-m
 use lib.Seq.{get_or-drop, length-take-le}
 use mir.Val.{Fits}
 use mir.Syntax.{w64}
+use Rattle.std.specs.Prelude.{Result, Ok, Err, Some, None}
 use Rattle.meaning.specs.Text.{from}
 use Rattle.meaning.specs.Kleene.{true₃}
 use Rattle.meaning.specs.Limits.{card_bytes, status_limit}
@@ -19,25 +20,25 @@ use Rattle.meaning.specs.Reading.{each}
 use Rattle.meaning.specs.Name.{Name}
 use Rattle.meaning.specs.Sheet.{Status}
 use Rattle.meaning.specs.Card.{is, status_mark, ended, shut, orphan}
-use Rattle.theory.specs.Reading.BuiltPapers.{ended_built, mark_line_built}
-use Rattle.theory.specs.Reading.Answered.{Found, answered_found, answered_wrong}
-use Rattle.theory.specs.Reading.Each.{Part, part_start, part_on}
+use Rattle.theory.specs.Reading.Told.{took}
+use Rattle.theory.specs.Reading.Piece.{Took}
+use Rattle.theory.specs.Reading.Each.{Part, part_start, part_end, part_off, part_on}
 use Rattle.name.specs.declared.Name.{Name as Kept}
 use Rattle.name.specs.Names.{name_of, names_in, name_at}
 use Rattle.name.proofs.Tables.{names_length, name_at_lem}
 use Rattle.sheet_tables.specs.declared.Heads.{Heads}
 use Rattle.theory.specs.Lists.Padded.{padded, padded_at}
 use Rattle.sheet_tables.specs.Heads.{Sized, under_of, status_at, heads_of}
-use Rattle.card_lines.specs.declared.MarkPiece.{MarkPiece}
-use Rattle.card_lines.specs.declared.MarkPiece.TheVariants as M
-use Rattle.card_read.specs.declared.MarksRead.{MarksRead}
-use Rattle.card_read.specs.declared.Orphan.TheVariants as O
+use Rattle.reply.specs.declared.Fault.{Fault}
+use Rattle.reply.specs.declared.Wrong.{Wrong}
+use Rattle.text.specs.declared.Taken.{Taken}
 use Rattle.marks.specs.Codes.{code, mark_code, is_yes, side_of}
 use Rattle.marks.proofs.Callers.{code_yes}
-use Rattle.card_read.specs.Parts.{MarksAs, as_orphan}
-use Rattle.card_lines.specs.Answers.{as_mark}
-use Rattle.card_lines.proofs.Callers.{mark_kind, status_ends}
-use Rattle.case_tables.proofs.Rows.{column_more, gave_end, gave_off}
+use Rattle.card_read.specs.Parts.{marks_from, as_orphan}
+use Rattle.card_lines.specs.Answers.{as_mark, on_line}
+use Rattle.card_lines.proofs.Callers.{mark_took, mark_refuses}
+use Rattle.card_lines.proofs.Papers.{line_went, line_fails}
+use Rattle.case_tables.proofs.Rows.{column_more}
 use Rattle.sheet_tables.proofs.Names.{names_cons}
 
 -- THE LINES
@@ -57,49 +58,45 @@ module _ (s names : List ℕ) (first count p line at : ℕ) (marks : List ℕ) (
   fewer : count ≤ length (drop first (names_in names))
   fewer = omega (arith, length-drop first (names_in names))
 
-  pub marks_done : count ≤ i → (l : ℕ) → l ≡ line + count
-      → MarksAs s names first count p line (record { number = 0; line = l; at = at; marks = marks })
-  marks_done h l z =
+  pub marks_done : count ≤ i → Ok (record { at = at; marks = marks }) ≡ marks_from (take count (drop first (names_in names))) p line s
+  marks_done h =
       let d = length-take-le count (drop first (names_in names)) fewer in
-      record { few = held; gave = gave_end g.part (line + count) (omega arith) g.held l (omega (arith, g.part.few)) (omega arith) }
+      let e = part_end g.part (omega arith) in
+      rw (e, took s at g.part.within) (ap (λ m. Ok (record { at = at; marks = m })) g.held)
 
-  module _ (more : i < count) (j : ℕ) (where? : j ≡ first + i) (d : Kept) (due : d ≡ name_at names j) (t : List ℕ) (q : MarkPiece) (rest : t ≡ drop at s)
-      (is : q ≡ as_mark t (ended (status_mark (name_of d)) 0 t)) where
+  module _ (more : i < count) (j : ℕ) (where? : j ≡ first + i) (d : Kept) (due : d ≡ name_at names j) (t : List ℕ) (q : Result (Taken ℕ) Fault)
+      (rest : t ≡ drop at s) (is : q ≡ as_mark t (ended (status_mark (name_of d)) 0 t)) (l : ℕ) (line_is : l ≡ line + i) (r : Result (Taken ℕ) Wrong)
+      (told : r ≡ on_line q l) where
     here : drop i (take count (drop first (names_in names))) ≡ name_of d ∷ drop (i + 1) (take count (drop first (names_in names)))
     here = names_cons (drop first (names_in names)) count i more fewer ∙ rw (get_or-drop first (names_in names) i [], ← where?, ← name_at_lem names j, due)
 
-    pub marks_bad : (k l : ℕ) (r : MarksRead) → q ≡ M.Refused k → l ≡ line + i → (r.number ≡ k) × (r.line ≡ l) × (r.at ≡ 0)
-        → MarksAs s names first count p line r
-    marks_bad k l r e y z =
-        let kept = answered_wrong mark_kind (status_ends _ t) q is k (ap mark_kind.size e) (line + i) in
-        record {
-          few = held;
-          gave = gave_off g.part (line + count) _ here (ended_built (mark_line_built _)) t rest k kept (omega arith) _ _ _ z.0
-              (z.1 ∙ y) z.2;
-        }
+    pub marks_bad : (w : Wrong) → r ≡ Err w → Err w ≡ marks_from (take count (drop first (names_in names))) p line s
+    marks_bad w e =
+        let f = line_fails (mark_refuses (name_of d) t q is) (line + i) r (rw line_is at told) w e in
+        rw (f.is, part_off g.part (name_of d) here t rest f.number (line + i) f.reads)
 
-    module _ (b n : ℕ) (e : q ≡ M.Mark b n) where
-      taken : Found mark_kind suc (λ b n. Unit {0}) (ended (status_mark (name_of d))) t q n
-      taken = answered_found mark_kind (status_ends _ t) q is n (ap mark_kind.size e)
+    module _ (v : Taken ℕ) (e : r ≡ Ok v) where
+      taken : Took (λ b n. record { value = mark_code b; bytes = n }) suc (λ b n. Unit {0}) (ended (status_mark (name_of d))) t v
+      taken = mark_took (name_of d) t q is v (line_went q l r told v e)
 
-      pub marks_more : count ≤ status_limit → (at' i' : ℕ) → at' ≡ at + n → i' ≡ i + 1
-          → MarksAt s (take count (drop first (names_in names))) p line at' (set marks i b) i'
+      size : v.bytes ≡ taken.bytes
+      size = ap (λ v. v.bytes) taken.same
+
+      pub marks_room : length s ≤ card_bytes → (j : ℕ) → j ≡ at + v.bytes → Fits w64 j
+      marks_room short j z = omega (arith, taken.within, size, ap length rest, length-drop at s, g.part.within)
+
+      pub marks_more : count ≤ status_limit → (at' i' : ℕ) → at' ≡ at + v.bytes → i' ≡ i + 1
+          → MarksAt s (take count (drop first (names_in names))) p line at' (set marks i v.value) i'
       marks_more h at' i' x y =
-          let same : q ≡ M.Mark (mark_code taken.value) n = taken.same in
           let z : line + i' ≡ suc (line + i) = omega arith in
+          let b : at' ≡ at + taken.bytes = omega (arith, size) in
           record {
             bs = g.bs ++ (taken.value ∷ []);
-            part = part_on g.part _ here t rest taken.value n at' i' (line + i') taken.within (rw z (taken.reads (line + i))) x y;
-            held = column_more mark_code status_limit marks g.bs taken.value i b g.held g.part.many (omega arith) (cc);
+            part = part_on g.part _ here t rest taken.value taken.bytes at' i' (line + i') taken.within (rw z (taken.reads (line + i))) b y;
+            held = column_more mark_code status_limit marks g.bs taken.value i v.value g.held g.part.many (omega arith) (ap (λ v. v.value) taken.same);
           }
 
--- the place behind a line stays within the card
-pub marks_room : (d : Name) (s t : List ℕ) (at : ℕ) (q : MarkPiece) → t ≡ drop at s → q ≡ as_mark t (ended (status_mark d) 0 t) → (b n : ℕ) → q ≡ M.Mark b n
-    → at ≤ length s → length s ≤ card_bytes → (j : ℕ) → j ≡ at + n → Fits w64 j
-marks_room d s t at q rest is b n e within short j z =
-    omega (arith, (answered_found mark_kind (status_ends d t) q is n (ap mark_kind.size e)).within, ap length rest, length-drop at s)
-
--- so does that of a name within the table
+-- the place of a name stays within the table
 pub name_room_lem : (names : List ℕ) (first count i : ℕ) → first + count ≤ length (names_in names) → i < count → length names < 2 ^ 64 → (j : ℕ) → j ≡ first + i
     → Fits w64 j
 name_room_lem names first count i held more short j z = omega (arith, names_length names)
@@ -139,7 +136,7 @@ unfolding heads_of
 scan_start h side = let z : h.stages - 0 ≡ h.stages = omega arith in rw z
 
 module _ (h : Heads) (marks : List ℕ) (x : ℕ) (so : orphan (side_of marks) 0 (heads_of h).stages ≡ orphan (side_of marks) x (stages_from h x)) where
-  pub scan_done : h.stages ≤ x → O.Nothing ≡ as_orphan (orphan (side_of marks) 0 (heads_of h).stages)
+  pub scan_done : h.stages ≤ x → None ≡ as_orphan (orphan (side_of marks) 0 (heads_of h).stages)
   unfolding orphan from
   scan_done e = let z : h.stages - x ≡ 0 = omega arith in rw (so, z)
 
@@ -150,7 +147,7 @@ module _ (h : Heads) (marks : List ℕ) (x : ℕ) (so : orphan (side_of marks) 0
         let z : h.stages - x ≡ suc (h.stages - suc x) = omega arith in
         rw (z, is?, ← yes_at_lem marks x, orphan)
 
-    pub scan_found : b ≡ true → O.At x ≡ as_orphan (orphan (side_of marks) 0 (heads_of h).stages)
+    pub scan_found : b ≡ true → Some x ≡ as_orphan (orphan (side_of marks) 0 (heads_of h).stages)
     scan_found e = rw (so ∙ one, e)
 
     pub scan_next : b ≡ false → (x' : ℕ) → x' ≡ x + 1 → orphan (side_of marks) 0 (heads_of h).stages ≡ orphan (side_of marks) x' (stages_from h x')

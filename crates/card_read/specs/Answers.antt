@@ -1,10 +1,13 @@
 -- What the code answers for a card that the meaning reads.
-use Rattle.meaning.specs.Refusal.{Answer, taken, refused}
+use Rattle.std.specs.Prelude.{Result}
+use Rattle.meaning.specs.Refusal.{Answer}
 use Rattle.meaning.specs.Sheet.{Heads}
 use Rattle.meaning.specs.Card as M
-use Rattle.card_read.specs.declared.CardRead.{CardRead}
-use Rattle.case_tables.specs.Cards.{as_card, no_card}
+use Rattle.theory.specs.Reading.Piece.{as_paper}
+use Rattle.reply.specs.declared.Wrong.{Wrong}
+use Rattle.reply.specs.Faults.{wrong_of}
+use Rattle.case_tables.specs.declared.Card.{Card}
+use Rattle.case_tables.specs.Cards.{as_card}
 
-abbrev pub as_card_read : Heads → Answer M.Card → CardRead
-as_card_read hd (taken c) = record { number = 0; line = 0; card = as_card hd c }
-as_card_read hd (refused n p l) = record { number = n; line = l; card = no_card }
+abbrev pub as_card_read : Heads → Answer M.Card → Result Card Wrong
+as_card_read hd = as_paper (as_card hd) (λ n p l. wrong_of n l)

@@ -1,85 +1,39 @@
--- What the parts of the reader answer: the rows of a table, the stage under a parent that is no, whole cards.
-use Rattle.std.specs.Prelude.{ℕ, ◌+◌, ◌≤◌, ◌≡◌, List, map, length, take, drop}
-use Rattle.std.proofs.Math.Option.{Option, none, some}
-use Rattle.meaning.specs.Text.{text}
-use Rattle.meaning.specs.Limits.{status_limit}
-use Rattle.meaning.specs.Refusal.{taken}
-use Rattle.meaning.specs.Reading.{Reader, after, give, each}
-use Rattle.meaning.specs.Number.{Entry, end_line}
-use Rattle.meaning.specs.Sheet as S
-use Rattle.meaning.specs.Sheet.{statuses, status_names}
-use Rattle.meaning.specs.Card as M
-use Rattle.meaning.specs.Card.{field_entry, status_mark, ended, card, field_line, mark_line, orphan, sheltered}
-use Rattle.name.specs.Names.{names_in}
-use Rattle.marks.specs.Codes.{mark_code}
-use Rattle.sheet_tables.specs.declared.Heads.{Heads}
+-- What the parts of the reader answer: the lines of the fields and of the statuses, the stage under a parent that is no.
+use Rattle.std.specs.Prelude.{ℕ, Bool, List, map, drop, Result, Option, Some, None}
+use Rattle.std.proofs.Math.Option.{none, some}
+use Rattle.std.proofs.Math.Option.{Option as Maybe}
+use Rattle.meaning.specs.Limits.{field_limit, status_limit}
+use Rattle.meaning.specs.Reading.{each}
+use Rattle.meaning.specs.Name.{Name}
+use Rattle.meaning.specs.Number.{Entry}
+use Rattle.meaning.specs.Card.{field_entry, status_mark, ended, field_line}
 use Rattle.theory.specs.Lists.Padded.{padded}
-use Rattle.sheet_tables.specs.Heads.{heads_of}
-use Rattle.case_tables.specs.declared.Card.{Card}
-use Rattle.case_tables.specs.Cards.{no_card, as_card}
-use Rattle.case_tables.specs.Rows.{Gave, Rows}
-use Rattle.card_read.specs.Answers.{as_card_read}
-use Rattle.card_read.specs.declared.Orphan.{Orphan}
-use Rattle.card_read.specs.declared.Orphan.TheVariants as O
-use Rattle.card_read.specs.declared.CardRead.{CardRead}
+use Rattle.theory.specs.Reading.Piece.{as_lines}
+use Rattle.reply.specs.declared.Wrong.{Wrong}
+use Rattle.reply.specs.Faults.{wrong_of}
+use Rattle.marks.specs.Codes.{mark_code}
+use Rattle.case_tables.specs.Cards.{value_places, value_codes, text_lengths}
 use Rattle.card_read.specs.declared.FieldsRead.{FieldsRead}
 use Rattle.card_read.specs.declared.MarksRead.{MarksRead}
 
--- the lines of the first fields of the table
-pub record FieldsAs (s names : List ℕ) (count p : ℕ) (r : FieldsRead) : Type 0 where
-  pub few : count ≤ length (names_in names)
-  pub gave : Gave (Rows p (take count (names_in names)) r.values r.starts r.lengths) s (field_line count) r.number r.line r.at
-      (each (λ n. ended (field_entry n)) (take count (names_in names)) (field_line 0) (drop p s)) give
+-- the tables of these entries, the first of whose lines begins at place p; the place n behind the last
+abbrev pub as_fields : ℕ → List Name → List Entry → ℕ → FieldsRead
+as_fields p ns es n =
+    record { at = n; values = value_codes es; starts = padded field_limit 0 (value_places p ns es); lengths = text_lengths es }
 
--- the lines of the statuses from a place of the table on, the first of which is line l
-pub record MarksAs (s names : List ℕ) (first count p l : ℕ) (r : MarksRead) : Type 0 where
-  pub few : first + count ≤ length (names_in names)
-  pub gave : Gave (λ bs. r.marks ≡ padded status_limit 0 (map mark_code bs)) s (l + count) r.number r.line r.at
-      (each (λ n. ended (status_mark n)) (take count (drop first (names_in names))) l (drop p s)) give
+-- the lines of the fields with these names, from the place p of s on
+abbrev pub fields_from : List Name → ℕ → List ℕ → Result FieldsRead Wrong
+fields_from ns p s = as_lines (λ es l n. as_fields p ns es n) wrong_of s (each (λ n. ended (field_entry n)) ns (field_line 0) (drop p s))
 
--- what is left of a card behind its statuses, and behind its fields
-abbrev pub behind_marks : M.Card → Reader M.Card
-behind_marks c l s = after (end_line (length c.entries + length c.statuses) l s) (λ _. give c)
+-- the table of these statuses; the place n behind the last
+abbrev pub as_marks : List Bool → ℕ → MarksRead
+as_marks bs n = record { at = n; marks = padded status_limit 0 (map mark_code bs) }
 
-abbrev pub behind_fields : S.Heads → List Entry → Reader M.Card
-behind_fields hd es l s = after (each (λ n. ended (status_mark n)) (status_names (statuses hd)) l s)
-    (λ ss. behind_marks (record { entries = es; statuses = ss }))
-
--- the tables hold an entry for each field of the sheet, from the card's second line on
-pub record Entered (h : Heads) (r : FieldsRead) (es : List Entry) : Type 0 where
-  pub many : length es ≡ h.fields
-  pub rows : Rows (length (text "case=") + length (heads_of h).model + 1) (heads_of h).fields r.values r.starts r.lengths es
-
--- a card of the sheet, up to the last line of its fields
-pub record FieldsOf (h : Heads) (s : List ℕ) (r : FieldsRead) : Type 0 where
-  pub gave : Gave (Entered h r) s (field_line h.fields) r.number r.line r.at (card (heads_of h) 1 s) (behind_fields (heads_of h))
-
--- the tables of a card
-abbrev pub card_of : FieldsRead → MarksRead → Card
-card_of f m = record { values = f.values; starts = f.starts; lengths = f.lengths; marks = m.marks }
-
--- the tables hold a card of the sheet, with as many lines between the first and the last
-pub record Carded (h : Heads) (f : FieldsRead) (m : MarksRead) (c : M.Card) : Type 0 where
-  pub many : length c.entries + length c.statuses ≡ h.fields + (h.stages + h.miles)
-  pub held : card_of f m ≡ as_card (heads_of h) c
-
--- a card of the sheet, up to the last line of its statuses
-pub record MarksOf (h : Heads) (s : List ℕ) (f : FieldsRead) (m : MarksRead) : Type 0 where
-  pub gave : Gave (Carded h f m) s (mark_line h.fields (h.stages + h.miles)) m.number m.line m.at (card (heads_of h) 1 s) behind_marks
+-- the lines of the statuses with these names, from the place p of s on; the first of them is line l
+abbrev pub marks_from : List Name → ℕ → ℕ → List ℕ → Result MarksRead Wrong
+marks_from ns p l s = as_lines (λ bs l n. as_marks bs n) wrong_of s (each (λ n. ended (status_mark n)) ns l (drop p s))
 
 -- the place of a stage, if there is one
-abbrev pub as_orphan : Option ℕ → Orphan
-as_orphan none = O.Nothing
-as_orphan (some x) = O.At x
-
--- where r is a card of the sheet, q is that card, or the refusal of its first orphan
-pub record Judged (h : Heads) (r q : CardRead) : Type 0 where
-  pub of : (c : M.Card) → r ≡ as_card_read (heads_of h) (taken c)
-      → q ≡ as_card_read (heads_of h) (sheltered (heads_of h) c (orphan c.statuses 0 (heads_of h).stages))
-
--- a card that is refused, and one that is taken
-abbrev pub refused_card : ℕ → ℕ → CardRead
-refused_card n l = record { number = n; line = l; card = no_card }
-
-abbrev pub taken_card : FieldsRead → MarksRead → CardRead
-taken_card f m = record { number = 0; line = 0; card = card_of f m }
+abbrev pub as_orphan : Maybe ℕ → Option ℕ
+as_orphan none = None
+as_orphan (some x) = Some x

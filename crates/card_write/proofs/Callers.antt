@@ -1,12 +1,13 @@
 -- What a caller may conclude: of a case that was taken, a field's text is that of the entry after the step, and the next card is the meaning's.
 use mathlib.Core.Path.{◌≡◌, refl, sym, ◌∙◌, ap, ap₂, subst}
-use mathlib.Core.Bool.{Bool, true, false}
+use mathlib.Core.Bool.{Bool, true, false, cond}
 use mathlib.Core.List.{List, [], ◌∷◌, ◌++◌, map}
 use mathlib.Core.Logic.{inl, inr}
-use Prim.Native.Nat.{ℕ, zero, suc, ◌+◌, ◌<◌}
+use Prim.Native.Nat.{ℕ, zero, suc, ◌+◌, ◌<◌, ◌≤◌}
 use native.Mathlib.Omega.{arith}
 use native.Mathlib.Decide.{ℕ_discrete}
-use borrow.Author.Tests.{eq-eqb, ne_eqb}
+use borrow.Author.Tests.{eq-eqb, ne_eqb, lt-ltb, le-ltb, ltb-true, ltb-false}
+use lib.Dec.{eqb, ltb}
 use lib.ListN.{length, take, drop, get_or, set, length-map, length-set, get_or-map}
 use lib.Seq.{take_at, get_or-set_same, get_or-set_other}
 use Rattle.meaning.specs.Text.{from, In}
@@ -25,17 +26,17 @@ use Rattle.theory.specs.Papers.Cards.{CardIn}
 use Rattle.theory.specs.Papers.Case.{card_holds}
 use Rattle.theory.specs.Writing.ReadBack.{put_length}
 use Rattle.theory.specs.Writing.Rows.{Rows, row_value, row_next, card_at, event_at_lem, once}
-use Rattle.name.specs.declared.Found.{Found}
-use Rattle.name.specs.declared.Found.TheVariants as F
-use Rattle.name.specs.Answers.{found_by, further}
-use Rattle.name.proofs.Callers.{found_within, found_here, found_later}
+use Rattle.std.specs.Prelude.{◌==◌, Option, Some, None}
+use Rattle.std.specs.Option.{option_map}
+use Rattle.std.specs.List.{position_or_len}
+use Rattle.std.proofs.lemmas.List.Quantifiers.{position-Some}
 use Rattle.theory.specs.Lists.Padded.{padded, padded_take, padded_at}
 use Rattle.marks.specs.Codes.{mark_code, is_yes, side_of}
 use Rattle.marks.proofs.Callers.{side_again}
 use Rattle.case_tables.specs.declared.Card.{Card}
 use Rattle.case_tables.specs.declared.Happening.{Happening}
 use Rattle.case_tables.specs.Cards.{value_places, as_card, as_happening}
-use Rattle.card_write.specs.Texts.{part, same_field, carried_in, shown_by, value_text, showing, next_text}
+use Rattle.card_write.specs.Texts.{part, carried_in, shown_by, value_text, showing, next_text}
 
 -- ARRAYS
 
@@ -57,61 +58,67 @@ module _ (s : List ℕ) where
 
 -- WHAT IS PUT IN
 
-same_field_lem : (f x : ℕ) → x ≡ f → same_field f x ≡ true
-unfolding same_field
-same_field_lem f x e = eq-eqb x f e
+-- the first place where a field stands
+carried_here : (f x : ℕ) (xs : List ℕ) → x ≡ f → carried_in f (x ∷ xs) ≡ Some 0
+carried_here f x xs e = rw (eq-eqb x f e) (ap (λ b. cond b (Some 0) None) (lt-ltb 0 (length (x ∷ xs)) (omega arith)))
 
-other_field : (f x : ℕ) → (x ≡ f → ⊥) → same_field f x ≡ false
-unfolding same_field
-other_field f x e = ne_eqb x f e
+carried_later : (f x : ℕ) (xs : List ℕ) → (x ≡ f → ⊥) → carried_in f (x ∷ xs) ≡ option_map suc (carried_in f xs)
+carried_later f x xs e = rw (ne_eqb x f e) (go (position_or_len (λ y. y == f) xs) (length xs) (ltb (position_or_len (λ y. y == f) xs) (length xs)) refl)
+  where
+    go : (n m : ℕ) (b : Bool) → ltb n m ≡ b → cond (ltb (1 + n) (suc m)) (Some (1 + n)) None ≡ option_map suc (cond (ltb n m) (Some n) None)
+    go n m true e =
+        let l : n < m = ltb-true n m e in
+        rw (e, lt-ltb (1 + n) (suc m) (omega arith)) (ap (λ k. Some k) (omega arith))
+    go n m false e =
+        let l : m ≤ n = ltb-false n m e in
+        rw (e, le-ltb (1 + n) (suc m) (omega arith))
 
 -- what is not among them is not found
-found_none : (w : ℕ) (vs : List ℕ) → (In w vs → ⊥) → carried_in w vs ≡ F.Nothing
-unfolding found_by
+found_none : (w : ℕ) (vs : List ℕ) → (In w vs → ⊥) → carried_in w vs ≡ None
 found_none w [] h = refl
-found_none w (v ∷ vs) h = found_later (same_field w) v vs (other_field w v (λ e. h (inl (sym e)))) ∙ ap further (found_none w vs (λ i. h (inr i)))
+found_none w (v ∷ vs) h = carried_later w v vs (λ e. h (inl (sym e))) ∙ ap (option_map suc) (found_none w vs (λ i. h (inr i)))
 
-put_kept : (d : Entry) (f : ℕ) (ps : List Put) (es : List Entry) → carried_in f (map (λ p. p.field) ps) ≡ F.Nothing → get_or (put_in ps es) f d ≡ get_or es f d
+put_kept : (d : Entry) (f : ℕ) (ps : List Put) (es : List Entry) → carried_in f (map (λ p. p.field) ps) ≡ None → get_or (put_in ps es) f d ≡ get_or es f d
 unfolding put_in
 put_kept d f [] es h = refl
 put_kept d f (p ∷ ps) es h = go (ℕ_discrete p.field f) (carried_in f (map (λ p. p.field) ps)) refl (put_kept d f ps (set es p.field p.entry))
   where
-    go : Dec (p.field ≡ f) → (x : Found) → carried_in f (map (λ p. p.field) ps) ≡ x
-        → (carried_in f (map (λ p. p.field) ps) ≡ F.Nothing → get_or (put_in ps (set es p.field p.entry)) f d ≡ get_or (set es p.field p.entry) f d)
+    go : Dec (p.field ≡ f) → (x : Option ℕ) → carried_in f (map (λ p. p.field) ps) ≡ x
+        → (carried_in f (map (λ p. p.field) ps) ≡ None → get_or (put_in ps (set es p.field p.entry)) f d ≡ get_or (set es p.field p.entry) f d)
         → get_or (put_in ps (set es p.field p.entry)) f d ≡ get_or es f d
     go (yes e) x q ih =
-        let y = found_here (same_field f) p.field (map (λ p. p.field) ps) (same_field_lem f p.field e) in
+        let y = carried_here f p.field (map (λ p. p.field) ps) e in
         let z : ◌≡◌ {A = ℕ} 0 1 = cc in
         absurd (omega arith)
-    go (no e) F.Nothing q ih = ih q ∙ get_or-set_other es p.field f p.entry d (λ z. e (sym z))
-    go (no e) (F.At i) q ih =
-        let y = found_later (same_field f) p.field (map (λ p. p.field) ps) (other_field f p.field e) ∙ ap further q in
+    go (no e) None q ih = ih q ∙ get_or-set_other es p.field f p.entry d (λ z. e (sym z))
+    go (no e) (Some i) q ih =
+        let y = carried_later f p.field (map (λ p. p.field) ps) e ∙ ap (option_map suc) q in
         let z : ◌≡◌ {A = ℕ} 0 1 = cc in
         absurd (omega arith)
 
 put_found : (d : Entry) (q : Put) (f : ℕ) (ps : List Put) (es : List Entry) (i : ℕ) → f < length es → Once (map (λ p. p.field) ps)
-    → carried_in f (map (λ p. p.field) ps) ≡ F.At i → get_or (put_in ps es) f d ≡ (get_or ps i q).entry
-unfolding put_in found_by
+    → carried_in f (map (λ p. p.field) ps) ≡ Some i → get_or (put_in ps es) f d ≡ (get_or ps i q).entry
+unfolding put_in
 put_found d q f [] es i l o h =
     let z : ◌≡◌ {A = ℕ} 0 1 = cc in
     absurd (omega arith)
 put_found d q f (p ∷ ps) es i l o h = go (ℕ_discrete p.field f) (carried_in f (map (λ p. p.field) ps)) refl i h
     (λ j. put_found d q f ps (set es p.field p.entry) j (rw (length-set es p.field p.entry) l) o.1)
   where
-    go : Dec (p.field ≡ f) → (x : Found) → carried_in f (map (λ p. p.field) ps) ≡ x → (i : ℕ) → carried_in f (p.field ∷ map (λ p. p.field) ps) ≡ F.At i
-        → ((j : ℕ) → carried_in f (map (λ p. p.field) ps) ≡ F.At j → get_or (put_in ps (set es p.field p.entry)) f d ≡ (get_or ps j q).entry)
+    go : Dec (p.field ≡ f) → (x : Option ℕ) → carried_in f (map (λ p. p.field) ps) ≡ x → (i : ℕ) → carried_in f (p.field ∷ map (λ p. p.field) ps) ≡ Some i
+        → ((j : ℕ) → carried_in f (map (λ p. p.field) ps) ≡ Some j → get_or (put_in ps (set es p.field p.entry)) f d ≡ (get_or ps j q).entry)
         → get_or (put_in ps (set es p.field p.entry)) f d ≡ (get_or (p ∷ ps) i q).entry
     go (yes e) x y i h ih =
-        let first = found_here (same_field f) p.field (map (λ p. p.field) ps) (same_field_lem f p.field e) in
+        let first = carried_here f p.field (map (λ p. p.field) ps) e in
         let z : 0 ≡ i = cc in
         rw (← z) (put_kept d f ps (set es p.field p.entry) (found_none f (map (λ p. p.field) ps) (λ m. o.0 (rw e m))) ∙ rw e
         (get_or-set_same es f p.entry d l))
-    go (no e) F.Nothing y i h ih =
-        let next = found_later (same_field f) p.field (map (λ p. p.field) ps) (other_field f p.field e) ∙ ap further y in
+    go (no e) None y i h ih =
+        let next = carried_later f p.field (map (λ p. p.field) ps) e ∙ ap (option_map suc) y in
         let z : ◌≡◌ {A = ℕ} 0 1 = cc in
         absurd (omega arith)
-    go (no e) (F.At j) y i h ih =
-        let next = found_later (same_field f) p.field (map (λ p. p.field) ps) (other_field f p.field e) ∙ ap further y in
+    go (no e) (Some j) y i h ih =
+        let next = carried_later f p.field (map (λ p. p.field) ps) e ∙ ap (option_map suc) y in
         let z : suc j ≡ i = cc in
         rw (← z) (ih j y)
 
@@ -160,12 +167,12 @@ module _ (hd : Heads) (well : WellHeads hd) (sc se : List ℕ) (mc : M.Card) (mh
         rw (padded_all field_limit (map (λ p. p.field) mh.puts) (length mh.puts) (sym (length-map mh.puts (λ p. p.field))))
         (go (carried_in f (map (λ p. p.field) mh.puts)) refl)
       where
-        go : (x : Found) → carried_in f (map (λ p. p.field) mh.puts) ≡ x
+        go : (x : Option ℕ) → carried_in f (map (λ p. p.field) mh.puts) ≡ x
             → shown_by se sc (as_happening hd mh) (as_card hd mc) f x ≡ (get_or (put_in mh.puts mc.entries) f d).shown
-        go (F.At i) q =
+        go (Some i) q =
             let few : i < length mh.puts = omega (
               arith,
-              found_within (same_field f) (map (λ p. p.field) mh.puts) i q,
+              (position-Some (λ x. eqb x f) (map (λ p. p.field) mh.puts) i 0 q).0,
               length-map mh.puts
                   (λ (p : Put). p.field),
             ) in
@@ -176,7 +183,7 @@ module _ (hd : Heads) (well : WellHeads hd) (sc se : List ℕ) (mc : M.Card) (mh
             ∙ ap (λ (e : Entry). e.shown) (get_or-map (λ (p : Put). p.entry) mh.puts i (record { field = 0; entry = d })
             ∙ sym (put_found d (record { field = 0; entry = d }) f mh.puts mc.entries i (omega (arith, card_in.entries))
             (once hd well se mh event_taken) q))
-        go F.Nothing q =
+        go None q =
             shown_at sc d hd.fields mc.entries (5 + length hd.model + 1) (card_at hd well sc mc card_taken) (sym card_in.entries) f
             (omega (arith, card_in.entries))
             ∙ ap (λ (e : Entry). e.shown) (sym (put_kept d f mh.puts mc.entries q))

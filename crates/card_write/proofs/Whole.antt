@@ -1,11 +1,12 @@
--- The whole card: its two halves as the tables give them, and what the lent space holds where it fits and where it does not.
+-- The whole card: its lines as the tables give them, and what the lent space holds where it fits and where it does not.
 use mathlib.Core.Path.{◌≡◌, refl, ap, sym, ◌∙◌}
-use mathlib.Core.List.{List, [], ◌∷◌, ◌++◌, map, append_assoc}
+use mathlib.Core.List.{List, [], ◌∷◌, ◌++◌, map}
 use Prim.Native.Nat.{ℕ, suc, ◌+◌, ◌<◌, ◌≤◌}
 use native.Mathlib.Omega.{arith}
 use borrow.Author.Tests.{le-leb, lt-leb}
 use lib.ListN.{length, drop, take, length-append, length-take, length-drop, length-map}
 use lib.Seq.{length-take-le}
+use Rattle.std.specs.Prelude.{Some, None}
 use Rattle.meaning.specs.Text.{text, from}
 use Rattle.meaning.specs.Limits.{field_limit, status_limit}
 use Rattle.meaning.specs.Name.{Name}
@@ -15,7 +16,6 @@ use Rattle.meaning.specs.Write.{line, lines, mark, card_text}
 use Rattle.theory.specs.Lists.Members.{from_length}
 use Rattle.theory.specs.Writing.ReadBack.{line_length_lem}
 use Rattle.limits.specs.Sizes.{name_room}
-use Rattle.name.specs.declared.Name.{Name as Kept}
 use Rattle.name.specs.Names.{name_of, names_in, part_of, table_words}
 use Rattle.name.proofs.Tables.{table_length, part_names}
 use Rattle.marks.specs.Codes.{is_yes}
@@ -25,9 +25,9 @@ use Rattle.sheet_tables.proofs.Names.{model_is, fields_are, statuses_are}
 use Rattle.case_tables.specs.declared.Card.{Card}
 use Rattle.case_tables.specs.declared.Happening.{Happening}
 use Rattle.theory.specs.Writing.Lent.{Wrote, wrote_room, wrote_both}
-use Rattle.card_write.specs.declared.Written.TheVariants.{Bytes, Room}
 use Rattle.card_write.specs.Texts.{showing, value_text, next_text}
-use Rattle.card_write.specs.Lines.{mark_at, lines_from, head_text, tail_text}
+use Rattle.card_write.specs.Lines.{mark_at, lines_from}
+use Rattle.card_write.proofs.Rows.{value_short, mark_short}
 use Rattle.card_write.specs.Answers.{as_written, space_with}
 
 -- LINES OF TABLES
@@ -50,80 +50,6 @@ unfolding lines lines_from
 marks_lines [] ms h = refl
 marks_lines (n ∷ ns) [] h = absurd (omega arith)
 marks_lines (n ∷ ns) (m ∷ ms) h = ap (λ r. line n (mark (is_yes m)) ++ r) (marks_lines ns ms (omega arith) ∙ lines_earlier (mark_at (m ∷ ms)) ns 0)
-
--- THE FIRST HALF
-module _ (model : Kept) (p event card : List ℕ) (e : Happening) (c : Card) where
-  abbrev first : List ℕ
-  first = line (text "case") (name_of model)
-
-  abbrev fields : List ℕ
-  fields = lines_from (value_text event card e c) (names_in p) 0
-
-  -- measured
-  pub head_long : (m b : ℕ) → m ≡ length (name_of model) → b ≡ length fields → (r : ℕ) → r ≡ m + 6 + b
-      → r ≡ length (head_text (name_of model) (names_in p) event card e c)
-  unfolding head_text
-  head_long m b x y r z = omega (arith, length-append first fields, line_length_lem (text "case") (name_of model))
-
-  -- written
-  module _ (o : List ℕ) (fits : length (head_text (name_of model) (names_in p) event card e c) ≤ length o) where
-    within : 0 + length (first ++ fields) ≤ length o
-    unfolding head_text
-    within = omega (arith, fits)
-
-    pub head_case : length (line (text "case") (name_of model)) ≤ length o
-    head_case = omega (arith, within, length-append first fields)
-
-    module _ (o1 : List ℕ) (a : ℕ) (y : Wrote 0 (line (text "case") (name_of model)) o o1 a) where
-      pub head_fields : a + length (lines_from (value_text event card e c) (names_in p) 0) ≤ length o1
-      head_fields = wrote_room 0 first fields o o1 a within y
-
-      pub head_done : (o2 : List ℕ) (r : ℕ) → Wrote a (lines_from (value_text event card e c) (names_in p) 0) o1 o2 r
-          → Wrote 0 (head_text (name_of model) (names_in p) event card e c) o o2 r
-      unfolding head_text
-      head_done o2 r z = wrote_both 0 first fields o o1 a within y o2 r z
-
-pub ruleset heading = (head_long, head_case, head_fields, head_done)
-
--- THE SECOND HALF
-module _ (p : List ℕ) (f : ℕ) (marks : List ℕ) (n : ℕ) (count : n ≡ length (names_in p)) where
-  abbrev rows : List ℕ
-  rows = lines_from (mark_at marks) (names_in p) 0
-
-  abbrev last : List ℕ
-  last = line (text "end") (decimal (f + n))
-
-  tail_is : tail_text (names_in p) f marks ≡ rows ++ last
-  unfolding tail_text
-  tail_is = rw (← count)
-
-  pub lines_few : length (names_in p) ≤ status_limit → f ≤ field_limit → (k : ℕ) → k ≡ f + n → k < 100
-  lines_few h g k e = omega arith
-
-  -- measured
-  pub tail_long : (b k : ℕ) → b ≡ length rows → k ≡ length (decimal (f + n)) → (r : ℕ) → r ≡ b + k + 5 → r ≡ length (tail_text (names_in p) f marks)
-  tail_long b k x y r z = rw tail_is (omega (arith, length-append rows last, line_length_lem (text "end") (decimal (f + n))))
-
-  -- written
-  module _ (at : ℕ) (o : List ℕ) (fits : at + length (tail_text (names_in p) f marks) ≤ length o) (o1 : List ℕ) (b : ℕ)
-      (y : Wrote at (lines_from (mark_at marks) (names_in p) 0) o o1 b) where
-    behind : at + length (rows ++ last) ≤ length o
-    behind = omega (arith, ap length tail_is)
-
-    pub tail_end : (k : ℕ) → k ≡ f + n → b + length (line (text "end") (decimal k)) ≤ length o1
-    tail_end k z = rw z (wrote_room at rows last o o1 b behind y)
-
-    pub tail_done : (k : ℕ) → k ≡ f + n → (o2 : List ℕ) (r : ℕ) → Wrote b (line (text "end") (decimal k)) o1 o2 r
-        → Wrote at (tail_text (names_in p) f marks) o o2 r
-    tail_done k z o2 r x = rw tail_is (wrote_both at rows last o o1 b behind y o2 r (rw z at x))
-
-pub tail_marks : (p : List ℕ) (f : ℕ) (marks : List ℕ) (at : ℕ) (o : List ℕ) → at + length (tail_text (names_in p) f marks) ≤ length o
-    → at + length (lines_from (mark_at marks) (names_in p) 0) ≤ length o
-unfolding tail_text
-tail_marks p f marks at o fits =
-    omega (arith, length-append (lines_from (mark_at marks) (names_in p) 0) (line (text "end") (decimal (f + length (names_in p)))))
-
-pub ruleset tailing = (lines_few, tail_long, tail_marks, tail_end, tail_done)
 
 -- THE NAMES OF THE FIELDS AND OF THE STATUSES
 module _ (h : Heads) (sized : Sized h) (long : length (names_in h.names) ≡ name_room) where
@@ -161,12 +87,6 @@ module _ (h : Heads) (sized : Sized h) (long : length (names_in h.names) ≡ nam
 
       pub marks_few : length (names_in p) ≤ status_limit
       marks_few = omega (arith, ap length marks_part, statuses_many, sized.few_statuses)
-
-      pub marks_held : (marks : List ℕ) → length marks ≡ status_limit → length (names_in p) ≤ length marks
-      marks_held marks held = omega (arith, marks_few)
-
-pub fields_low : (h : Heads) → Sized h → h.fields ≤ field_limit
-fields_low h sized = sized.few_fields
 
 -- BOTH
 module _ (h : Heads) (sized : Sized h) (long : length (names_in h.names) ≡ name_room) (event card : List ℕ) (e : Happening) (c : Card) (marks : List ℕ)
@@ -207,56 +127,103 @@ module _ (h : Heads) (sized : Sized h) (long : length (names_in h.names) ≡ nam
         few,
       )
 
-  module _ (p : List ℕ) (p_is : p ≡ part_of h.names 0 h.fields) (a n : ℕ) (start : a ≡ h.fields + h.events) (count : n ≡ h.stages + h.miles)
-      (q : List ℕ) (q-is : q ≡ part_of h.names a n) where
-    abbrev head : List ℕ
-    head = head_text (name_of h.model) (names_in p) event card e c
+  module _ (p : List ℕ) (p_is : p ≡ part_of h.names 0 h.fields) (start n : ℕ) (from : start ≡ h.fields + h.events) (many : n ≡ h.stages + h.miles)
+      (q : List ℕ) (q-is : q ≡ part_of h.names start n) where
+    abbrev first : List ℕ
+    first = line (text "case") (name_of h.model)
 
-    abbrev tail : List ℕ
-    tail = tail_text (names_in q) h.fields marks
+    abbrev fields : List ℕ
+    fields = lines_from (value_text event card e c) (names_in p) 0
 
-    next_is : next_text (heads_of h) event card e c marks ≡ head ++ tail
-    unfolding next_text card_text head_text tail_text
-    next_is =
-        rw (
-          fields_part h sized long p p_is,
-          marks_part h sized long q a n start count q-is,
-          fields_lined (value_text event card e c),
-          count_is,
-          statuses_count,
-          marks_are,
-          model_is h,
-        )
-        (append_assoc (line (text "case") (name_of h.model) ++ lines_from (value_text event card e c) (field_names h sized long) 0) _ _)
+    abbrev rows : List ℕ
+    rows = lines_from (mark_at marks) (names_in q) 0
 
-    -- measured
-    pub card_long : (k m : ℕ) → k ≡ length (head_text (name_of h.model) (names_in p) event card e c) → m ≡ length (tail_text (names_in q) h.fields marks)
-        → (n : ℕ) → n ≡ k + m → n ≡ length (next_text (heads_of h) event card e c marks)
-    card_long k m x y n z = rw next_is (omega (arith, length-append head tail))
+    abbrev last : ℕ → List ℕ
+    last k = line (text "end") (decimal k)
 
-    -- written, one half behind the other
+    module _ (m : ℕ) (count : m ≡ length (names_in q)) (k : ℕ) (all : k ≡ h.fields + m) where
+      next_is : next_text (heads_of h) event card e c marks ≡ first ++ fields ++ rows ++ last k
+      unfolding next_text card_text
+      next_is =
+          rw (
+            all,
+            count,
+            fields_part h sized long p p_is,
+            marks_part h sized long q start n from many q-is,
+            fields_lined (value_text event card e c),
+            count_is,
+            statuses_count,
+            marks_are,
+            model_is h,
+          )
+
+      pub lines_few : k < 100
+      lines_few = omega (arith, marks_few h sized long q start n from many q-is, sized.few_fields)
+
+      -- measured
+      pub card_long : (f w d b : ℕ) → f ≡ length (name_of h.model) → w ≡ length fields → d ≡ length rows → b ≡ length (decimal k)
+          → (r : ℕ) → r ≡ f + 6 + w + d + (b + 5) → r ≡ length (next_text (heads_of h) event card e c marks)
+      card_long f w d b x y z u r v =
+          omega (
+            arith,
+            ap length next_is,
+            length-append (first ++ fields ++ rows) (last k),
+            length-append (first ++ fields) rows,
+            length-append first fields,
+            line_length_lem (text "case") (name_of h.model),
+            line_length_lem (text "end") (decimal k),
+          )
+
+    -- written, one piece behind the other
     module _ (o : List ℕ) (fits : length (next_text (heads_of h) event card e c marks) ≤ length o) where
-      whole : 0 + length (head ++ tail) ≤ length o
-      whole = omega (arith, ap length next_is)
+      whole : 0 + length (first ++ fields ++ rows ++ last (h.fields + length (names_in q))) ≤ length o
+      whole = omega (arith, ap length (next_is (length (names_in q)) refl (h.fields + length (names_in q)) refl))
 
-      pub card_head : length (head_text (name_of h.model) (names_in p) event card e c) ≤ length o
-      card_head = omega (arith, whole, length-append head tail)
+      rows_fit : 0 + length (first ++ fields ++ rows) ≤ length o
+      rows_fit = omega (arith, whole, length-append (first ++ fields ++ rows) (last (h.fields + length (names_in q))))
 
-      module _ (o1 : List ℕ) (b : ℕ) (y : Wrote 0 (head_text (name_of h.model) (names_in p) event card e c) o o1 b) where
-        pub card_tail : b + length (tail_text (names_in q) h.fields marks) ≤ length o1
-        card_tail = wrote_room 0 head tail o o1 b whole y
+      fields_fit : 0 + length (first ++ fields) ≤ length o
+      fields_fit = omega (arith, rows_fit, length-append (first ++ fields) rows)
 
-        pub card_done : (o2 : List ℕ) (r : ℕ) → Wrote b (tail_text (names_in q) h.fields marks) o1 o2 r
-            → Wrote 0 (next_text (heads_of h) event card e c marks) o o2 r
-        card_done o2 r x = rw next_is (wrote_both 0 head tail o o1 b whole y o2 r x)
+      pub card_case : length (line (text "case") (name_of h.model)) ≤ length o
+      card_case = omega (arith, fields_fit, length-append first fields)
 
-pub ruleset carding = (names_room, statuses_room, fields_few, marks_few, marks_held, fields_low, card_long, card_head, card_tail, card_done)
+      module _ (o1 : List ℕ) (a : ℕ) (x : Wrote 0 (line (text "case") (name_of h.model)) o o1 a) where
+        pub card_fields : a + length (lines_from (value_text event card e c) (names_in p) 0) ≤ length o1
+        card_fields = wrote_room 0 first fields o o1 a fields_fit x
+
+        module _ (o2 : List ℕ) (b : ℕ) (y : Wrote a (lines_from (value_text event card e c) (names_in p) 0) o1 o2 b) where
+          front : Wrote 0 (first ++ fields) o o2 b
+          front = wrote_both 0 first fields o o1 a fields_fit x o2 b y
+
+          pub card_marks : b + length (lines_from (mark_at marks) (names_in q) 0) ≤ length o2
+          card_marks = wrote_room 0 (first ++ fields) rows o o2 b rows_fit front
+
+          module _ (o3 : List ℕ) (d : ℕ) (z : Wrote b (lines_from (mark_at marks) (names_in q) 0) o2 o3 d) (m : ℕ) (count : m ≡ length (names_in q))
+              (k : ℕ) (all : k ≡ h.fields + m) where
+            behind : Wrote 0 (first ++ fields ++ rows) o o3 d
+            behind = wrote_both 0 (first ++ fields) rows o o2 b rows_fit front o3 d z
+
+            ended : 0 + length (first ++ fields ++ rows ++ last k) ≤ length o
+            ended = omega (arith, ap length (next_is m count k all))
+
+            pub card_end : d + length (line (text "end") (decimal k)) ≤ length o3
+            card_end = wrote_room 0 (first ++ fields ++ rows) (last k) o o3 d ended behind
+
+            pub card_done : (o4 : List ℕ) (r : ℕ) → Wrote d (line (text "end") (decimal k)) o3 o4 r
+                → Wrote 0 (next_text (heads_of h) event card e c marks) o o4 r
+            card_done o4 r u =
+                rw (next_is m count k all) (wrote_both 0 (first ++ fields ++ rows) (last k) o o3 d ended behind o4 r u)
+
+pub ruleset measuring = (names_room, statuses_room, fields_few, marks_few, value_short, mark_short, lines_few, card_long)
+
+pub ruleset carding = (names_room, statuses_room, marks_few, lines_few, card_case, card_fields, card_marks, card_end, card_done)
 
 -- THE LENT SPACE
 
 -- w is the text of the next card, n its length
 module _ (w : List ℕ) (n : ℕ) (is : n ≡ length w) (o : List ℕ) where
-  pub room_none : length o < n → Room ≡ as_written o w
+  pub room_none : length o < n → None ≡ as_written o w
   unfolding as_written
   room_none g = sym (rw (← is, lt-leb n (length o) g))
 
@@ -264,7 +231,7 @@ module _ (w : List ℕ) (n : ℕ) (is : n ≡ length w) (o : List ℕ) where
   unfolding space_with
   room_kept g = sym (rw (← is, lt-leb n (length o) g))
 
-  pub room_some : n ≤ length o → Bytes n ≡ as_written o w
+  pub room_some : n ≤ length o → Some n ≡ as_written o w
   unfolding as_written
   room_some g = sym (rw (← is, le-leb n (length o) g))
 

@@ -1,11 +1,9 @@
 -- What the code answers where a text is to be written, and what the lent space then holds.
-use Rattle.std.specs.Prelude.{ℕ, cond, List, ◌++◌, leb, length, drop}
-use Rattle.card_write.specs.declared.Written.{Written}
-use Rattle.card_write.specs.declared.Written.TheVariants.{Bytes, Room}
+use Rattle.std.specs.Prelude.{ℕ, cond, Option, Some, None, List, ◌++◌, leb, length, drop}
 
--- how many bytes were written; ROOM where the text is longer than the space
-unfoldable pub as_written : List ℕ → List ℕ → Written
-as_written out w = cond (leb (length w) (length out)) (Bytes (length w)) Room
+-- how many bytes were written; none where the text is longer than the space
+unfoldable pub as_written : List ℕ → List ℕ → Option ℕ
+as_written out w = cond (leb (length w) (length out)) (Some (length w)) None
 
 -- the text at the start and what was behind it; untouched where it does not fit
 unfoldable pub space_with : List ℕ → List ℕ → List ℕ

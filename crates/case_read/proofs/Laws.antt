@@ -2,6 +2,12 @@
 use Prim.Native.Nat.{ℕ}
 use mathlib.Core.Path.{◌≡◌, sym, ◌∙◌, ap}
 use mathlib.Core.List.{List}
+use native.Mathlib.Omega.{arith}
+use Rattle.std.specs.Prelude.{Result, Ok, Err}
+use Rattle.theory.specs.Requests.Numbers.{card_tells, event_tells}
+use Rattle.reply.specs.declared.Wrong.{Wrong}
+use Rattle.reply.specs.Faults.{number_of}
+use Rattle.reply.proofs.Faults.{number_again}
 use Rattle.meaning.specs.Sheet as M
 use Rattle.meaning.specs.Card.{read_card, read_event}
 use Rattle.meaning.specs.Doors as D
@@ -10,10 +16,8 @@ use Rattle.sheet_tables.specs.Heads.{Sized, heads_of}
 use Rattle.case_tables.specs.declared.Card.{Card}
 use Rattle.case_tables.specs.declared.Happening.{Happening}
 use Rattle.case_tables.specs.Cards.{no_card, as_card, no_happening, as_happening}
-use Rattle.card_read.specs.declared.CardRead.{CardRead}
 use Rattle.card_read.specs.Answers.{as_card_read}
 use Rattle.card_read.proofs.Callers.{card_taken, card_refused}
-use Rattle.event_read.specs.declared.EventRead.{EventRead}
 use Rattle.event_read.specs.Answers.{as_event_read}
 use Rattle.event_read.proofs.Callers.{event_taken, event_refused}
 use Rattle.step_sheet.specs.declared.Accepted.{Accepted}
@@ -52,30 +56,40 @@ module _ (s c e : List ℕ) (x : Accepted) (sheet_told_lem : x ≡ as_accepted (
     same_heads : said ≡ hd
     same_heads = accept_heads s x sheet_told_lem zero
 
-    module _ (g : CardRead) (card_told : g ≡ as_card_read (heads_of x.heads) (read_card (heads_of x.heads) c)) where
+    module _ (g : Result Card Wrong) (card_told : g ≡ as_card_read (heads_of x.heads) (read_card (heads_of x.heads) c)) where
       card_is : g ≡ as_card_read hd (read_card hd c)
       card_is = card_told ∙ ap (λ hd. as_card_read hd (read_card hd c)) same_heads
 
-      pub case_card : (g.number ≡ 0 → ⊥) → (q : Case) → q ≡ refused_case g.number 2 g.line → q ≡ as_case (read_case s c e)
+      pub case_card : (w : Wrong) → g ≡ Err w → (k : ℕ) → k ≡ number_of w.fault → (q : Case) → q ≡ refused_case k 2 w.line → q ≡ as_case (read_case s c e)
       unfolding read_case read_told
-      case_card z q f = f ∙ sym (rw ((accept_read s x sheet_told_lem zero).same, card_refused hd c g card_is z))
+      case_card w z k m q f =
+          let (n, y, told) = card_refused hd c g card_is w z in
+          let some = (card_tells hd c).told n 2 w.line told in
+          let number : k ≡ n = m ∙ ap (λ w. number_of w.fault) y ∙ number_again n some.0 (omega (arith, some.1)) in
+          f ∙ ap (λ k. refused_case k 2 w.line) number ∙ sym (rw ((accept_read s x sheet_told_lem zero).same, told))
 
-      module _ (read : g.number ≡ 0) (h : EventRead) (event_told : h ≡ as_event_read (heads_of x.heads) (read_event (heads_of x.heads) e)) where
+      module _ (v : Card) (read : g ≡ Ok v) (h : Result Happening Wrong)
+          (event_told : h ≡ as_event_read (heads_of x.heads) (read_event (heads_of x.heads) e)) where
         event_is : h ≡ as_event_read hd (read_event hd e)
         event_is = event_told ∙ ap (λ hd. as_event_read hd (read_event hd e)) same_heads
 
-        pub case_event : (h.number ≡ 0 → ⊥) → (q : Case) → q ≡ refused_case h.number 3 h.line → q ≡ as_case (read_case s c e)
+        pub case_event : (w : Wrong) → h ≡ Err w → (k : ℕ) → k ≡ number_of w.fault → (q : Case) → q ≡ refused_case k 3 w.line → q ≡ as_case (read_case s c e)
         unfolding read_case read_told
-        case_event z q f = f ∙ sym (rw ((accept_read s x sheet_told_lem zero).same, (card_taken hd c g card_is read).1, event_refused hd e h event_is z))
+        case_event w z k m q f =
+            let (n, y, told) = event_refused hd e h event_is w z in
+            let some = (event_tells hd e).told n 3 w.line told in
+            let number : k ≡ n = m ∙ ap (λ w. number_of w.fault) y ∙ number_again n some.0 (omega (arith, some.1)) in
+            f ∙ ap (λ k. refused_case k 3 w.line) number
+            ∙ sym (rw ((accept_read s x sheet_told_lem zero).same, (card_taken hd c g card_is v read).1, told))
 
-        pub case_all : h.number ≡ 0
-            → ◌≡◌ {A = Case} (record { number = 0; paper = 0; line = 0; sheet = x; card = g.card; happening = h.happening }) (as_case (read_case s c e))
+        pub case_all : (u : Happening) → h ≡ Ok u
+            → ◌≡◌ {A = Case} (record { number = 0; paper = 0; line = 0; sheet = x; card = v; happening = u }) (as_case (read_case s c e))
         unfolding read_case read_told
-        case_all z =
+        case_all u z =
             let a = accept_read s x sheet_told_lem zero in
-            let (mc, c_same, c_is) = card_taken hd c g card_is read in
-            let (mh, h_same, h_is) = event_taken hd e h event_is z in
-            made x g.card h.happening (record { sheet = a.sheet.sheet; order = a.sheet.order; card = mc; happening = mh }) a.is c_is h_is ∙ sym
+            let (mc, c_same, c_is) = card_taken hd c g card_is v read in
+            let (mh, h_same, h_is) = event_taken hd e h event_is u z in
+            made x v u (record { sheet = a.sheet.sheet; order = a.sheet.order; card = mc; happening = mh }) a.is c_is h_is ∙ sym
             (rw (a.same, c_same, h_same))
 
 pub ruleset reading = (case_sheet, case_sized, case_card, case_event, case_all)

@@ -53,22 +53,20 @@ pub fn read_case(sheet: &[u8], card: &[u8], event: &[u8]) -> Case
     if accepted.number != 0 {
         return refused(accepted.number, reply::SHEET, accepted.line);
     }
-    let given = card_read::read_card(accepted.heads, card);
-    if given.number != 0 {
-        return refused(given.number, reply::CARD, given.line);
-    }
-    let told = event_read::read_event(accepted.heads, event);
-    if told.number != 0 {
-        return refused(told.number, reply::EVENT, told.line);
-    }
-    let card = given.card;
-    let happening = told.happening;
+    let given = match card_read::read_card(accepted.heads, card) {
+        Ok(given) => given,
+        Err(wrong) => return refused(reply::number(wrong.fault), reply::CARD, wrong.line),
+    };
+    let told = match event_read::read_event(accepted.heads, event) {
+        Ok(told) => told,
+        Err(wrong) => return refused(reply::number(wrong.fault), reply::EVENT, wrong.line),
+    };
     Case {
         number: 0,
         paper: 0,
         line: 0,
-        card,
-        happening,
+        card: given,
+        happening: told,
         sheet: accepted,
     }
 }

@@ -8,7 +8,6 @@ use Rattle.meaning.specs.Text.{In}
 use Rattle.meaning.specs.Refusal.{Answer, taken, refused}
 use Rattle.meaning.specs.Condition.{Cond}
 use Rattle.meaning.specs.Sheet.{Rule}
-use Rattle.meaning.specs.ReadSheet.{sheet}
 use Rattle.meaning.specs.Graph.{TestingOrder}
 use Rattle.meaning.specs.Tests.{nodes, tests}
 use Rattle.meaning.specs.Dependency.{predecessors}

@@ -1,14 +1,12 @@
 -- The accepted sheet, return by return: what is known there, and the answer that is asked.
 use Prim.Native.Nat.{ℕ, zero, suc, ◌+◌, ◌-◌, ◌*◌, ◌≤◌}
 use mathlib.Core.Path.{◌≡◌, refl, sym, ◌∙◌, ap, ap₂}
-use mathlib.Core.Bool.{true, false, not}
 use mathlib.Core.List.{List, ◌++◌}
 use mathlib.Core.Option.{some}
 use native.Mathlib.Omega.{arith}
 use native.Mathlib.Nat.{sub-zero, zero-sub}
 use mir.Val.{Fits}
 use mir.Syntax.{w64}
-use borrow.Author.Tests.{not-true, not-false}
 use lib.ListN.{length, take, drop, replicate, length-append, length-replicate}
 use lib.Seq.{sets, sets-eq}
 use Rattle.meaning.specs.Refusal.{Answer, taken, refused, on_taken, CYCLE}
@@ -32,12 +30,17 @@ use Rattle.sheet_tables.specs.declared.Heads.{Heads}
 use Rattle.sheet_tables.specs.Heads.{as_heads}
 use Rattle.sheet_tables.specs.Rules.{all_words, as_rules}
 use Rattle.sheet_read.specs.declared.SheetRead.{SheetRead}
-use Rattle.sheet_read.specs.Answers.{as_sheet_read, words_read}
+use Rattle.sheet_read.specs.Answers.{sheet_tables, as_sheet_read, words_read}
+use Rattle.std.specs.Prelude.{Result, Ok, Err}
+use Rattle.reply.specs.declared.Wrong.{Wrong}
+use Rattle.reply.specs.Faults.{number_of, wrong_of}
+use Rattle.reply.proofs.Faults.{number_again}
 use Rattle.graph_tests.specs.declared.Tests.{Tests}
 use Rattle.graph_tests.specs.Table.{as_tests, first_line, tests_of, Ready}
 use Rattle.graph_tests.specs.Answers.{rows_of}
 use Rattle.graph_tests.proofs.Callers.{tests_taken, tests_are, tests_ready}
-use Rattle.graph_order.specs.declared.Sorting.{Sorting}
+use Rattle.std.specs.Prelude as Code
+use Rattle.std.specs.Prelude.{Some, None}
 use Rattle.graph_order.specs.Answers.{as_sorting}
 use Rattle.graph_edges.specs.Edges.{tests_into}
 use Rattle.graph_edges.proofs.Callers.{order_is, order_none, order_some}
@@ -79,35 +82,41 @@ tests_read r = tests_of r.rules r.heads.under r.heads.stages (line_read r)
 pub record Read (s : List ℕ) (r : SheetRead) : Type 0 where
   pub sh : M.Sheet
   pub is : paper 1 sheet_bytes sheet s ≡ taken sh
-  pub same : r ≡ as_sheet_read (taken sh)
+  pub same : r ≡ sheet_tables sh
 
-module _ (s : List ℕ) (r : SheetRead) (told : r ≡ as_sheet_read (paper 1 sheet_bytes sheet s)) where
-  number_told_lem : (n p l : ℕ) → paper 1 sheet_bytes sheet s ≡ refused n p l → 1 ≤ n
+module _ (s : List ℕ) (p : Result SheetRead Wrong) (told : p ≡ as_sheet_read (paper 1 sheet_bytes sheet s)) where
+  number_told_lem : (n q l : ℕ) → paper 1 sheet_bytes sheet s ≡ refused n q l → (1 ≤ n) × (n ≤ 10)
   unfolding read_sheet
-  number_told_lem n p l e = ((sheet_tells s).told n p l (rw e)).0
+  number_told_lem n q l e = let h = (sheet_tells s).told n q l (rw e) in (h.0, omega (arith, h.1))
 
-  read : r.number ≡ 0 → Read s r
-  read z = go (paper 1 sheet_bytes sheet s) refl
-    where
-      go : (x : Answer M.Sheet) → paper 1 sheet_bytes sheet s ≡ x → Read s r
-      go (taken sh) e = record { sh = sh; is = e; same = told ∙ ap as_sheet_read e }
-      go (refused n p l) e =
-          let q : r.number ≡ n = ap (λ (r : SheetRead). r.number) (told ∙ ap as_sheet_read e) in
-          absurd (omega (arith, number_told_lem n p l e))
-
-  pub accept_refused : (r.number ≡ 0 → ⊥) → (q : Accepted) → q ≡ refused_sheet r.number r.line → q ≡ as_accepted (read_sheet s)
+  pub accept_refused : (w : Wrong) → p ≡ Err w → (k : ℕ) → k ≡ number_of w.fault → (q : Accepted) → q ≡ refused_sheet k w.line → q ≡ as_accepted (read_sheet s)
   unfolding read_sheet
-  accept_refused z q f = go (paper 1 sheet_bytes sheet s) refl
+  accept_refused w off k m q f = go (paper 1 sheet_bytes sheet s) refl
     where
       go : (x : Answer M.Sheet) → paper 1 sheet_bytes sheet s ≡ x → q ≡ as_accepted
           (on_taken (paper 1 sheet_bytes sheet s) (λ sh. accepted sh (testing_order sh)))
-      go (taken sh) e = absurd (z (ap (λ (r : SheetRead). r.number) (told ∙ ap as_sheet_read e)))
-      go (refused n p l) e = f ∙ ap (λ (r : SheetRead). refused_sheet r.number r.line) (told ∙ ap as_sheet_read e) ∙ sym (rw e)
+      go (taken sh) e = let z : ◌≡◌ {A = Result SheetRead Wrong} (Err w) (as_sheet_read (taken sh)) = sym off ∙ told ∙ ap as_sheet_read e in cc
+      go (refused n o l) e =
+          let z : ◌≡◌ {A = Result SheetRead Wrong} (Err w) (as_sheet_read (refused n o l)) = sym off ∙ told ∙ ap as_sheet_read e in
+          let y : w ≡ wrong_of n l = cc in
+          let h = number_told_lem n o l e in
+          let number : k ≡ n = m ∙ ap (λ w. number_of w.fault) y ∙ number_again n h.0 h.1 in
+          let line : w.line ≡ l = ap (λ w. w.line) y in
+          f ∙ rw (number, line) (sym (rw e))
 
-  module _ (zero : r.number ≡ 0) where
+  module _ (r : SheetRead) (on : p ≡ Ok r) where
+    read : Read s r
+    read = go (paper 1 sheet_bytes sheet s) refl
+      where
+        go : (x : Answer M.Sheet) → paper 1 sheet_bytes sheet s ≡ x → Read s r
+        go (taken sh) e =
+            let z : ◌≡◌ {A = Result SheetRead Wrong} (Ok r) (as_sheet_read (taken sh)) = sym on ∙ told ∙ ap as_sheet_read e in
+            record { sh = sh; is = e; same = cc }
+        go (refused n o l) e = let z : ◌≡◌ {A = Result SheetRead Wrong} (Ok r) (as_sheet_read (refused n o l)) = sym on ∙ told ∙ ap as_sheet_read e in cc
+
     -- the sheet, and that it is well formed
     pub up : Read s r
-    up = read zero
+    up = read
 
     pub well : Well up.sh
     well = paper_holds Well 1 sheet_bytes sheet s sheet_well up.sh up.is
@@ -158,26 +167,27 @@ module _ (s : List ℕ) (r : SheetRead) (told : r ≡ as_sheet_read (paper 1 she
       pub accept_nodes : k * 2 ≤ node_room
       accept_nodes = omega (arith, accept_few)
 
-      module _ (t : Tests) (made_of : t ≡ tests_read r) (w : List ℕ) (put : w ≡ words_read (paper 1 sheet_bytes sheet s)) (o : Sorting)
-          (sorted : o ≡ as_sorting (order_for (k * 2) (tests_into w (take t.count t.rows)))) where
-        pub order : o ≡ as_sorting (testing_order up.sh)
-        order = order_is up.sh well t w (tests_told t made_of) (words_are w put) k (sum ∙ sum_is) o sorted
+      module _ (t : Tests) (made_of : t ≡ tests_read r) (w : List ℕ) (put : w ≡ words_read (paper 1 sheet_bytes sheet s)) (f : Code.Option (List ℕ))
+          (sorted : f ≡ as_sorting (order_for (k * 2) (tests_into w (take t.count t.rows)))) where
+        pub order : f ≡ as_sorting (testing_order up.sh)
+        order = order_is up.sh well t w (tests_told t made_of) (words_are w put) k (sum ∙ sum_is) f sorted
 
-        pub accept_cycle : not o.found ≡ true → (q : Accepted) → q ≡ refused_sheet CYCLE 0 → q ≡ as_accepted (read_sheet s)
+        pub accept_cycle : f ≡ None → (q : Accepted) → q ≡ refused_sheet CYCLE 0 → q ≡ as_accepted (read_sheet s)
         unfolding read_sheet
-        accept_cycle z q f = f ∙ sym (rw (up.is, order_none up.sh o order (not-true o.found z)))
+        accept_cycle z q g = g ∙ sym (rw (up.is, order_none up.sh f order z))
 
-        pub accept_taken : not o.found ≡ false → (n : ℕ) → n ≡ k * 2 → (p : Plan) → p ≡ as_plan (take t.count t.rows) o.order n
+        pub accept_taken : (o : List ℕ) → f ≡ Some o → (n : ℕ) → n ≡ k * 2 → (p : Plan) → p ≡ as_plan (take t.count t.rows) o n
             → ◌≡◌ {A = Accepted} (record { number = 0; line = 0; heads = r.heads; words = w; top = r.rules.top; plan = p })
             (as_accepted (read_sheet s))
         unfolding read_sheet nodes as_rules padded
-        accept_taken z n double p f =
-            let u = take (nodes up.sh.heads) o.order in
-            let some_is : testing_order up.sh ≡ some u = order_some up.sh o order (not-false o.found z) in
-            let order_at : o.order ≡ padded node_room 0 u = ap (λ (o : Sorting). o.order) (order ∙ ap as_sorting some_is) in
+        accept_taken o z n double p g =
+            let u = take (nodes up.sh.heads) o in
+            let some_is : testing_order up.sh ≡ some u = order_some up.sh f order o z in
+            let some_at : Some o ≡ Some (padded node_room 0 u) = sym z ∙ order ∙ ap as_sorting some_is in
+            let order_at : o ≡ padded node_room 0 u = cc in
             let count : n ≡ length u = double ∙ ap (λ k. k * 2) (sum ∙ sum_is) ∙ sym (order_long up.sh u some_is) in
-            let plan_is : p ≡ plan_for (rows_of up.sh) u = f
-            ∙ ap (λ rows. as_plan rows o.order n) (ap (λ (t : Tests). take t.count t.rows) (tests_told t made_of) ∙ tests_taken (rows_of up.sh))
+            let plan_is : p ≡ plan_for (rows_of up.sh) u = g
+            ∙ ap (λ rows. as_plan rows o n) (ap (λ (t : Tests). take t.count t.rows) (tests_told t made_of) ∙ tests_taken (rows_of up.sh))
             ∙ ap₂ (as_plan (rows_of up.sh)) order_at count in
             made r.heads w r.rules.top p (record { sheet = up.sh; order = u })
             (ap (λ (r : SheetRead). r.heads) up.same) (words_are w put) (ap (λ (r : SheetRead). r.rules.top) up.same) plan_is

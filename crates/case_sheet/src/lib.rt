@@ -13,10 +13,10 @@ pub fn accept(s: &[u8]) -> Accepted
     ensures { result ≡ as_accepted (read_sheet s.now) }
 {
     let mut words = [0; limits::WORDS];
-    let read = sheet_read::read_sheet(s, &mut words);
-    if read.number != 0 {
-        return step_sheet::refused(read.number, read.line);
-    }
+    let read = match sheet_read::read_sheet(s, &mut words) {
+        Ok(read) => read,
+        Err(wrong) => return step_sheet::refused(reply::number(wrong.fault), wrong.line),
+    };
     let under = read.heads.under;
     let tests = graph_tests::tests_of(
         read.rules,
@@ -27,11 +27,9 @@ pub fn accept(s: &[u8]) -> Accepted
         read.heads.miles,
     );
     let statuses = read.heads.stages + read.heads.miles;
-    let sorted = graph_edges::testing_order(tests, &words, statuses);
-    if !sorted.found {
+    let Some(order) = graph_edges::testing_order(tests, &words, statuses) else {
         return step_sheet::refused(reply::CYCLE, 0);
-    }
-    let order = sorted.order;
+    };
     let plan = step_plan::plan_tests(tests, order, statuses * 2);
     let heads = read.heads;
     Accepted {

@@ -1,4 +1,4 @@
--- Tables that grow, and what was read as the code tells it:
+-- Tables that grow:
 pub mod Rows
 -- No second answer fits:
 pub mod Only

@@ -1,21 +1,16 @@
--- Tables with one row more, and what was read as the code tells it.
-use Prim.Native.Nat.{ℕ, suc, ◌+◌, ◌≤◌, ◌<◌}
-use mathlib.Core.Path.{◌≡◌, refl, sym, ◌∙◌, ap}
+-- Tables with one row more.
+use Prim.Native.Nat.{ℕ, suc, ◌+◌, ◌<◌}
+use mathlib.Core.Path.{◌≡◌, refl, ◌∙◌, ap}
 use mathlib.Core.List.{List, [], ◌∷◌, ◌++◌, map, map-append}
 use native.Mathlib.Omega.{arith}
-use lib.ListN.{length, drop, get_or, set, replicate, length-map}
+use lib.ListN.{length, get_or, set, replicate, length-map}
 use Rattle.meaning.specs.Limits.{field_limit}
-use Rattle.meaning.specs.Reading.{Got, got, wrong, Reader, after, give}
 use Rattle.meaning.specs.Name.{Name}
 use Rattle.meaning.specs.Number.{Entry}
-use Rattle.theory.specs.Reading.Built.{Built}
-use Rattle.theory.specs.Reading.Faults.{never_zero}
-use Rattle.theory.specs.Reading.Answered.{Left}
-use Rattle.theory.specs.Reading.Each.{Part, part_end, part_off}
 use Rattle.marks.specs.Codes.{coded}
 use Rattle.theory.specs.Lists.Padded.{padded, padded_set}
 use Rattle.case_tables.specs.Cards.{value_places}
-use Rattle.case_tables.specs.Rows.{Gave, Rows}
+use Rattle.case_tables.specs.Rows.{Rows}
 
 padded_more : {A : Type 0} (n : ℕ) (d : A) (xs : List A) (a : A) (i : ℕ) → length xs ≡ i → i < n → set (padded n d xs) i a ≡ padded n d (xs ++ (a ∷ []))
 padded_more n d xs a i e h = rw (← e) (padded_set n d xs a (omega arith))
@@ -73,32 +68,3 @@ laid_more {p} {ns} {values} {starts} {lengths} {es} {at} g i many room due e v q
       };
       next = rw next (omega arith);
     }
-
--- WHAT THE READER FOR EACH MEMBER OF A LIST GAVE, of whom some are read: all of them, or the refusal of the next
-module _ {A B : Type 0} {P : List A → Type 0} {r : B → Reader A} {bs : List B} {x : Got (List A)} {s : List ℕ} {l at i : ℕ} {xs : List A}
-    (part : Part r bs x s l at i xs) (top : ℕ) where
-  pub gave_end : length bs ≤ i → P xs → (line : ℕ) → line ≡ l → line ≤ top → Gave P s top 0 line at x give
-  gave_end h p line z low = record { within = part.within; low = low; good = λ _. (xs, p, rw z (part_end part h)); bad = λ n. absurd (n refl) }
-
-  pub gave_off : (b : B) → drop i bs ≡ b ∷ drop (i + 1) bs → Built (r b) → (t : List ℕ) → t ≡ drop at s → (k : ℕ) → r b l t ≡ wrong k l → l ≤ top
-      → (number line place : ℕ) → number ≡ k → line ≡ l → place ≡ 0 → Gave P s top number line place x give
-  gave_off b next built t rest k e low number line place y z w =
-      let n : k ≡ 0 → ⊥ = never_zero built l t k l e in
-      record { within = omega arith; low = omega arith; good = λ o. absurd (n (sym y ∙ o)); bad = λ _. part_off part b next t rest k l e ∙ rw (y, z) }
-
--- what a reader gave where it is the next of those that are left, and m is made of it
-pub gave_next : {A B C : Type 0} {P : A → Type 0} {Q : B → Type 0} (r : Reader A) (m : A → B) (k : B
-    → Reader C) {x : Got C} {l at : ℕ} {s : List ℕ} {top number line place : ℕ}
-    → Left x (λ l s. after (r l s) (λ a. k (m a))) l at s → Gave P s top number line place (r l (drop at s)) give
-    → ((a : A) → P a → r l (drop at s) ≡ got a line (drop place s) → Q (m a)) → (most : ℕ) → top ≤ most → Gave Q s most number line place x k
-gave_next r m k left g f most h = record {
-  within = g.within;
-  low = omega (arith, g.low);
-  good = λ z. let (a, p, e) = g.good z in (m a, f a p e, left.is ∙ rw e);
-  bad = λ z. left.is ∙ rw (g.bad z);
-}
-
--- and where it refused
-pub gave_wrong : {A C : Type 0} {P : A → Type 0} {x : Got C} {k : A → Reader C} {s : List ℕ} {top : ℕ} (number line place : ℕ)
-    → x ≡ wrong number line → (number ≡ 0 → ⊥) → line ≤ top → place ≡ 0 → Gave P s top number line place x k
-gave_wrong number line place e n low z = record { within = omega arith; low = low; good = λ o. absurd (n o); bad = λ _. e }

@@ -1,12 +1,13 @@
 -- The blank card: the next card of a card that shows `?` everywhere and of no event, and what is printed for a sheet, return by return.
 use Prim.Native.Nat.{ℕ, zero, suc, ◌+◌, ◌<◌, ◌≤◌}
-use mathlib.Core.Path.{◌≡◌, refl, sym, ◌∙◌, ap, ap₂}
+use mathlib.Core.Path.{◌≡◌, refl, ◌∙◌, ap, ap₂}
 use mathlib.Core.Bool.{true, false}
 use mathlib.Core.List.{List, [], ◌∷◌, ◌++◌, map}
 use native.Mathlib.Omega.{arith}
 use borrow.Author.Tests.{le-leb}
 use lib.Dec.{leb}
 use lib.ListN.{length, length-append, length-map, length-take, take, drop, replicate, get_or-replicate}
+use Rattle.std.specs.Prelude.{Option, Some, unwrap_or}
 use Rattle.meaning.specs.Text.{text, from}
 use Rattle.meaning.specs.Limits.{field_limit, status_limit}
 use Rattle.meaning.specs.Name.{Name}
@@ -19,7 +20,6 @@ use Rattle.meaning.specs.Clerk.{unasked, blank_card, blank_printed, blank_output
 use Rattle.theory.specs.Lists.Members.{from_length}
 use Rattle.theory.specs.Clerk.Blank.{blank_short}
 use Rattle.name.specs.Names.{names_in}
-use Rattle.name.specs.Answers.{found_by}
 use Rattle.marks.specs.Codes.{is_yes}
 use Rattle.sheet_tables.specs.declared.Heads.{Heads}
 use Rattle.sheet_tables.specs.Heads.{Sized, heads_of, names_at, status_at}
@@ -27,8 +27,6 @@ use Rattle.case_tables.specs.Cards.{no_happening}
 use Rattle.theory.specs.Writing.Lent.{Wrote}
 use Rattle.card_write.specs.Texts.{showing, value_text, next_text}
 use Rattle.card_write.specs.Answers.{as_written, space_with}
-use Rattle.card_write.specs.declared.Written.{Written}
-use Rattle.card_write.specs.declared.Written.TheVariants.{Bytes, Room}
 use Rattle.sets.specs.Front.{Front}
 use Rattle.step_sheet.specs.declared.Accepted.{Accepted}
 use Rattle.step_sheet.specs.Answers.{as_accepted}
@@ -41,7 +39,7 @@ use Rattle.clerk_check.specs.Blank.{unasked_card}
 
 -- every field shows `?`
 unasked_shown : (event : List ℕ) (f : ℕ) → f < field_limit → value_text event (text "?") no_happening unasked_card f ≡ text "?"
-unfolding value_text found_by
+unfolding value_text
 unasked_shown event f h = rw (get_or-replicate {A = ℕ} field_limit f 0 0 h, get_or-replicate {A = ℕ} field_limit f 1 0 h)
 
 unasked_entries : (t : ℕ → List ℕ) (ns : List Name) (i : ℕ) → ((k : ℕ) → k < i + length ns → t k ≡ text "?")
@@ -86,12 +84,12 @@ module _ (h : Heads) (sized : Sized h) where
 
   -- IT FITS
 
-  module _ (event o : List ℕ) (fits : length (blank_card (heads_of h)) ≤ length o) (w : Written)
+  module _ (event o : List ℕ) (fits : length (blank_card (heads_of h)) ≤ length o) (w : Option ℕ)
       (told : w ≡ as_written o (next_text (heads_of h) event (text "?") no_happening unasked_card (replicate status_limit 0))) where
     fits_told : leb (length (blank_card (heads_of h))) (length o) ≡ true
     fits_told = le-leb (length (blank_card (heads_of h))) (length o) fits
 
-    written_is : w ≡ Bytes (length (blank_card (heads_of h)))
+    written_is : w ≡ Some (length (blank_card (heads_of h)))
     unfolding as_written
     written_is = told ∙ rw (blank_is event, fits_told)
 
@@ -100,19 +98,10 @@ module _ (h : Heads) (sized : Sized h) where
       unfolding space_with
       space_is = space ∙ rw (blank_is event, fits_told)
 
-      pub blank_done : (n : ℕ) → w ≡ Bytes n → Front (blank_card (heads_of h)) n o o1
+      pub blank_done : (n : ℕ) → n ≡ unwrap_or w 0 → Front (blank_card (heads_of h)) n o o1
       blank_done n is =
-          let z : Bytes n ≡ Bytes (length (blank_card (heads_of h))) = sym is ∙ written_is in
-          let count : n ≡ length (blank_card (heads_of h)) = cc in
+          let count : n ≡ length (blank_card (heads_of h)) = is ∙ ap (λ x. unwrap_or x 0) written_is in
           record { count = count; list = rw count space_is }
-
-      pub blank_room : w ≡ Room → Front (blank_card (heads_of h)) 0 o o1
-      blank_room is =
-          let z : Room ≡ Bytes (length (blank_card (heads_of h))) = sym is ∙ written_is in
-          let y : ◌≡◌ {A = ℕ} 0 1 = cc in
-          absurd (omega arith)
-
-pub ruleset blanking = (blank_done, blank_room)
 
 -- THE SHEET
 

@@ -21,7 +21,11 @@ use Rattle.sheet_tables.specs.Heads.{Sized}
 use Rattle.sheet_tables.proofs.Tables.{sized}
 use Rattle.sheet_tables.specs.Rules.{as_rules}
 use Rattle.sheet_read.specs.declared.SheetRead.{SheetRead}
-use Rattle.sheet_read.specs.Answers.{refused_sheet, as_sheet_read, words_read}
+use Rattle.sheet_read.specs.Answers.{as_sheet_read, words_read}
+use Rattle.std.specs.Prelude.{Result, Ok, Err}
+use Rattle.reply.specs.declared.Wrong.{Wrong}
+use Rattle.reply.specs.Faults.{number_of, wrong_of}
+use Rattle.reply.proofs.Faults.{number_again}
 use Rattle.graph_tests.specs.declared.Tests.{Tests}
 use Rattle.theory.specs.Writing.Lent.{Wrote}
 use Rattle.sets.specs.Front.{Front}
@@ -37,38 +41,41 @@ order_short : (sh : M.Sheet) → Well sh → (o : Option (List ℕ)) → length 
 order_short sh well (some o) = omega (arith, sheet_short sh well)
 order_short sh well none = omega (arith, circle_short sh well)
 
-module _ (s : List ℕ) (r : SheetRead) (told : r ≡ as_sheet_read (paper 1 sheet_bytes sheet s)) where
-  wrong : (r.number ≡ 0 → ⊥) → paper 1 sheet_bytes sheet s ≡ refused r.number 1 r.line
+module _ (s : List ℕ) (p : Result SheetRead Wrong) (told : p ≡ as_sheet_read (paper 1 sheet_bytes sheet s)) where
+  wrong : (w : Wrong) → p ≡ Err w → paper 1 sheet_bytes sheet s ≡ refused (number_of w.fault) 1 w.line
   unfolding read_sheet
-  wrong z = go (paper 1 sheet_bytes sheet s) refl
+  wrong w off = go (paper 1 sheet_bytes sheet s) refl
     where
-      go : (x : Answer M.Sheet) → paper 1 sheet_bytes sheet s ≡ x → paper 1 sheet_bytes sheet s ≡ refused r.number 1 r.line
-      go (taken sh) e = absurd (z (ap (λ (r : SheetRead). r.number) (told ∙ ap as_sheet_read e)))
-      go (refused n p l) e =
-          let is : r ≡ refused_sheet n l = told ∙ ap as_sheet_read e in
-          let paper_is : p ≡ 1 = ((sheet_tells s).told n p l (rw e)).2 in
-          e ∙ ap (λ p. refused n p l) paper_is ∙ ap (λ (r : SheetRead). refused r.number 1 r.line) (sym is)
+      go : (x : Answer M.Sheet) → paper 1 sheet_bytes sheet s ≡ x → paper 1 sheet_bytes sheet s ≡ refused (number_of w.fault) 1 w.line
+      go (taken sh) e = let z : ◌≡◌ {A = Result SheetRead Wrong} (Err w) (as_sheet_read (taken sh)) = sym off ∙ told ∙ ap as_sheet_read e in cc
+      go (refused n q l) e =
+          let z : ◌≡◌ {A = Result SheetRead Wrong} (Err w) (as_sheet_read (refused n q l)) = sym off ∙ told ∙ ap as_sheet_read e in
+          let y : w ≡ wrong_of n l = cc in
+          let h = (sheet_tells s).told n q l (rw e) in
+          rw (y, number_again n h.0 (omega (arith, h.1))) (e ∙ ap (λ p. refused n p l) h.2)
 
-  pub check_wrong : (r.number ≡ 0 → ⊥) → (o o1 : List ℕ) (q : ℕ) → Wrote 0 (refusal_text r.number 1 r.line) o o1 q → Front (check_output s) q o o1
+  pub check_wrong : (w : Wrong) → p ≡ Err w → (k : ℕ) → k ≡ number_of w.fault → (o o1 : List ℕ) (q : ℕ) → Wrote 0 (refusal_text k 1 w.line) o o1 q
+      → Front (check_output s) q o o1
   unfolding check_output check_printed
-  check_wrong z o o1 q v = rw (wrong z) (front_of (refusal_text r.number 1 r.line) o o1 q v)
+  check_wrong w off k m o o1 q v =
+      rw (wrong w off) (front_of (refusal_text (number_of w.fault) 1 w.line) o o1 q (subst (λ k. Wrote 0 (refusal_text k 1 w.line) o o1 q) m v))
 
-  module _ (zero : r.number ≡ 0) where
+  module _ (r : SheetRead) (on : p ≡ Ok r) where
     abbrev sh : M.Sheet
-    sh = (Read.up s r told zero).sh
+    sh = (Read.up s p told r on).sh
 
     well : Well sh
-    well = Read.well s r told zero
+    well = Read.well s p told r on
 
     pub check_sized : Sized r.heads
-    check_sized = rw (Read.up s r told zero).same (sized sh.heads well.heads)
+    check_sized = rw (Read.up s p told r on).same (sized sh.heads well.heads)
 
     module _ (w : List ℕ) (put : w ≡ words_read (paper 1 sheet_bytes sheet s)) (t : Tests) (made_of : t ≡ Read.tests_read r) where
       text_is : sheet_text r.heads r.rules.count r.rules.leaves w (take t.count t.rows) ≡ order_told sh (testing_order sh)
       unfolding as_rules
       text_is =
-          ap (λ (q : SheetRead). sheet_text q.heads q.rules.count q.rules.leaves w (take t.count t.rows)) (Read.up s r told zero).same
-          ∙ sheet_told_lem sh well t w (Read.tests_told s r told zero t made_of) (Read.words_are s r told zero w put)
+          ap (λ (q : SheetRead). sheet_text q.heads q.rules.count q.rules.leaves w (take t.count t.rows)) (Read.up s p told r on).same
+          ∙ sheet_told_lem sh well t w (Read.tests_told s p told r on t made_of) (Read.words_are s p told r on w put)
 
       pub check_fits : (o : List ℕ) → check_room ≤ length o
           → length (sheet_text r.heads r.rules.count r.rules.leaves w (take t.count t.rows)) ≤ length o
@@ -78,6 +85,6 @@ module _ (s : List ℕ) (r : SheetRead) (told : r ≡ as_sheet_read (paper 1 she
           → Wrote 0 (sheet_text r.heads r.rules.count r.rules.leaves w (take t.count t.rows)) o o1 q → Front (check_output s) q o o1
       unfolding check_output check_printed
       check_told o o1 q v =
-          rw (Read.up s r told zero).is (front_of (order_told sh (testing_order sh)) o o1 q (subst (λ w. Wrote 0 w o o1 q) text_is v))
+          rw (Read.up s p told r on).is (front_of (order_told sh (testing_order sh)) o o1 q (subst (λ w. Wrote 0 w o o1 q) text_is v))
 
 pub ruleset checking = (check_wrong, check_sized, accept_ready, accept_words, check_fits, check_told)

@@ -8,7 +8,6 @@ ghost use Rattle.sheet_tables.specs.Heads.{Sized, heads_of};
 ghost use Rattle.sets.specs.Front.{Front};
 ghost use Rattle.desk_rooms.specs.Rooms.{check_room, card_room};
 
-use card_write::Written;
 use case_tables::{Card, Happening};
 use sheet_tables::Heads;
 
@@ -19,10 +18,13 @@ pub fn check_output(input: &[u8], out: &mut [u8]) -> usize
     ensures { Front (check_output input.now) result out.old out.new }
 {
     let mut words = [0; limits::WORDS];
-    let read = sheet_read::read_sheet(input, &mut words);
-    if read.number != 0 {
-        return desk_print::put_refusal(out, read.number, reply::SHEET, read.line);
-    }
+    let read = match sheet_read::read_sheet(input, &mut words) {
+        Ok(read) => read,
+        Err(wrong) => {
+            let number = reply::number(wrong.fault);
+            return desk_print::put_refusal(out, number, reply::SHEET, wrong.line);
+        }
+    };
     let under = read.heads.under;
     let tests = graph_tests::tests_of(
         read.rules,
@@ -63,11 +65,7 @@ fn put_blank(out: &mut [u8], heads: Heads) -> usize
         lengths: [0; limits::FIELDS],
     };
     let after = [marks::NO; limits::STATUSES];
-    let written = card_write::write_card(out, heads, b"", b"?", happening, given, after);
-    let Written::Bytes(count) = written else {
-        return 0;
-    };
-    count
+    card_write::write_card(out, heads, b"", b"?", happening, given, after).unwrap_or(0)
 }
 
 // All that is printed for a sheet with the word `blank`: its refusal, or its blank card. `out` has at least `desk_rooms::CARD` bytes.

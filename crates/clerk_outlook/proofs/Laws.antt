@@ -22,8 +22,7 @@ use Rattle.theory.specs.Writing.Lent.{Wrote}
 use Rattle.case_read.specs.declared.Case.{Case}
 use Rattle.case_read.specs.Answers.{taken_case, as_case}
 use Rattle.case_read.proofs.Callers.{TheCase, the_case, case_moment, printed_case}
-use Rattle.outlook_case.specs.declared.Listed.{Listed}
-use Rattle.outlook_case.specs.declared.Listed.TheVariants.{Patterns, Many}
+use Rattle.std.specs.Prelude.{Option, Some, None}
 use Rattle.outlook_case.specs.Patterns.{Ready, as_listed, list_space}
 use Rattle.outlook_case.proofs.Callers.{ready, answer_outlook, listed_many, listed_taken}
 use Rattle.desk_rooms.specs.Rooms.{named_room}
@@ -46,12 +45,12 @@ module _ (x : Case) (w : Named x) (m : Moment) (is : m ≡ moment_of x.card x.ha
   named_ready = rw is w.ready
 
   -- what is listed tells whether there are too many parts, and the array then holds the list
-  module _ (l : Listed) (told : l ≡ as_listed x.sheet m) where
-    pub many_done : l ≡ Many → (o o1 : List ℕ) (n : ℕ) → Wrote 0 many_text o o1 n → Wrote 0 (named_text x) o o1 n
+  module _ (l : Option ℕ) (told : l ≡ as_listed x.sheet m) where
+    pub many_done : l ≡ None → (o o1 : List ℕ) (n : ℕ) → Wrote 0 many_text o o1 n → Wrote 0 (named_text x) o o1 n
     unfolding named_text prospects_told outlook_lines
     many_done z o o1 n v = rw (← is, listed_many x.sheet m l told z) v
 
-    module _ (count : ℕ) (z : l ≡ Patterns count) (was ps : List ℕ) (space : ps ≡ list_space x.sheet m was) where
+    module _ (count : ℕ) (z : l ≡ Some count) (was ps : List ℕ) (space : ps ≡ list_space x.sheet m was) where
       text_of : named_text x ≡ prospects_told (status_names_of x.sheet.heads) (taken (take count ps))
       unfolding named_text
       text_of = rw (← is, listed_taken x.sheet m l told count z was ps space)

@@ -10,7 +10,6 @@ ghost use Rattle.desk_rooms.specs.Rooms.{named_room};
 ghost use Rattle.clerk_outlook.specs.Texts.{named_text, Named};
 
 use case_read::Case;
-use outlook_case::Listed;
 
 // The outlook in names of a case that was read, or that it is refused.
 fn print_named(case: Case, out: &mut [u8]) -> usize
@@ -20,7 +19,7 @@ fn print_named(case: Case, out: &mut [u8]) -> usize
     let moment = step_moment::moment_of(case.card, case.happening);
     let mut patterns = [0u32; limits::PARTS];
     let listed = outlook_case::list_case(case.sheet, moment, &mut patterns);
-    let Listed::Patterns(count) = listed else {
+    let Some(count) = listed else {
         return desk_print::put_many(out, 0);
     };
     clerk_prospects::put_prospects(out, case.sheet.heads, &patterns[..count])
@@ -40,6 +39,8 @@ fn print_outlook(sheet: &[u8], card: &[u8], event: &[u8], out: &mut [u8]) -> usi
 }
 
 // All that the clerk's program prints with the word `outlook`, at the start of `out`, which has at least `desk_rooms::NAMED` bytes; answers how long it is.
+// Not inlined: put into its caller in C, it was compiled to a write at a wrong place (docs/DECISIONS.md, 'Today's Rattle').
+#[inline(never)]
 pub fn outlook_output(input: &[u8], out: &mut [u8]) -> usize
     requires { named_room ≤ length out.old }
     ensures { Front (outlook_output input.now) result out.old out.new }

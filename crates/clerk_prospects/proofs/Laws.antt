@@ -1,5 +1,5 @@
 -- The outlook in names, piece by piece, in the form in which the functions' answers need it.
-use Prim.Native.Nat.{ℕ, zero, suc, ◌+◌, ◌/◌, ◌%◌, ◌^◌, ◌<◌, ◌≤◌, max}
+use Prim.Native.Nat.{ℕ, suc, ◌+◌, ◌/◌, ◌%◌, ◌^◌, ◌<◌, ◌≤◌}
 use mathlib.Core.Path.{◌≡◌, refl, sym, ◌∙◌, ap, ap₂, subst}
 use mathlib.Core.Bool.{Bool, true, false, not, ◌&&◌, ◌||◌, cond}
 use mathlib.Core.List.{List, [], ◌∷◌, ◌++◌}
@@ -26,8 +26,8 @@ use Rattle.sheet_tables.proofs.Names.{statuses_held}
 use Rattle.sheet_tables.specs.Heads.{names_at, Sized}
 use Rattle.theory.specs.Writing.Lent.{Wrote, Left, left_start, left_end, left_room, left_more, wrote_none, first_room, second_room, both_written}
 use Rattle.desk_print.proofs.Laws.{listing_room}
-use Rattle.graph_order.specs.Masks.{bit_at, has}
-use Rattle.graph_order.proofs.Bits.{bit_or_lem, bit_lt, has_none, has_full, has_and}
+use Rattle.graph_order.specs.Masks.{has}
+use Rattle.graph_order.proofs.Bits.{has_none, has_full, has_and, has_either}
 use Rattle.clerk_prospects.specs.declared.Common.{Common}
 use Rattle.clerk_prospects.specs.Lines.{all_with, some_with, common_of, lowest, word_line, word_lines, name_text, names_text, status_names_of}
 
@@ -290,7 +290,7 @@ patterns_room ns = listing_room (pattern_line ns)
 
 -- a bit of what all have, and of what some has
 all_has : (ps : List ℕ) (a x : ℕ) → has (all_with a ps) x ≡ has a x && not (any (λ p. not (yes_in x p)) ps)
-unfolding all_with any has yes_in bit_at
+unfolding all_with any has yes_in
 all_has [] a x = go (has a x)
   where
     go : (b : Bool) → b ≡ b && true
@@ -306,27 +306,14 @@ all_has (p ∷ ps) a x =
     go true false c = refl
     go false b c = refl
 
-either_has : (a b x : ℕ) → has (bit_or a b) x ≡ has a x || has b x
-unfolding has
-either_has a b x = ap (λ n. eqb n 1) (bit_or_lem a b x) ∙ go (bit_at a x) (bit_at b x) (bit_lt a x) (bit_lt b x)
-  where
-    go : (m n : ℕ) → m < 2 → n < 2 → eqb (max m n) 1 ≡ eqb m 1 || eqb n 1
-    go zero zero h g = refl
-    go zero (suc zero) h g = refl
-    go (suc zero) zero h g = refl
-    go (suc zero) (suc zero) h g = refl
-    go zero (suc (suc n)) h g = absurd (omega arith)
-    go (suc zero) (suc (suc n)) h g = absurd (omega arith)
-    go (suc (suc m)) n h g = absurd (omega arith)
-
 some_has : (ps : List ℕ) (a x : ℕ) → has (some_with a ps) x ≡ has a x || any (yes_in x) ps
-unfolding some_with any has yes_in bit_at
+unfolding some_with any has yes_in
 some_has [] a x = go (has a x)
   where
     go : (b : Bool) → b ≡ b || false
     go true = refl
     go false = refl
-some_has (p ∷ ps) a x = some_has ps (bit_or a p) x ∙ ap (λ b. b || any (yes_in x) ps) (either_has a p x) ∙ go (has a x) (yes_in x p) (any (yes_in x) ps)
+some_has (p ∷ ps) a x = some_has ps (bit_or a p) x ∙ ap (λ b. b || any (yes_in x) ps) (has_either a p x) ∙ go (has a x) (yes_in x p) (any (yes_in x) ps)
   where
     go : (a b c : Bool) → (a || b) || c ≡ a || (b || c)
     go true b c = refl
@@ -347,7 +334,7 @@ module _ (ps : List ℕ) where
   some_bit x = some_has ps 0 x ∙ ap (λ b. b || any (yes_in x) ps) (has_none x)
 
   word_is : (x : ℕ) → x < status_limit → lowest (every / 2 ^ x) (some / 2 ^ x) ≡ prospect ps x
-  unfolding prospect has bit_at
+  unfolding prospect has
   word_is x h = rw (every_bit x h, some_bit x) (go (any (λ p. not (yes_in x p)) ps))
     where
       go : (b : Bool) → cond (not b) always (cond (any (yes_in x) ps) still_open never) ≡ cond b (cond (any (yes_in x) ps) still_open never) always

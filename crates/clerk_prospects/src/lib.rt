@@ -25,13 +25,11 @@ struct Common {
 fn common_of(patterns: &[u32]) -> Common
     ensures { result ≡ common_of patterns.now }
 {
-    let mut all: u32 = 4294967295;
-    let mut some: u32 = 0;
-    let mut i = 0;
-    while i < patterns.len() {
-        all = all & patterns[i];
-        some = some | patterns[i];
-        i += 1;
+    let mut all = u32::MAX;
+    let mut some = 0;
+    for p in patterns {
+        all &= *p;
+        some |= *p;
     }
     Common { all, some }
 }
@@ -55,16 +53,13 @@ fn put_words(out: &mut [u8], names: &[u64], all: u32, some: u32) -> usize
     requires { length (word_lines (names_in names.now) all some) ≤ length out.old }
     ensures { Wrote 0 (word_lines (names_in names.now) all some) out.old out.new result }
 {
-    let count = name::count(names);
     let mut to = 0;
     let mut a = all;
     let mut s = some;
-    let mut i = 0;
-    while i < count {
+    for i in 0..name::count(names) {
         to = put_word(out, to, name::at(names, i), a, s);
-        a = a / 2;
-        s = s / 2;
-        i += 1;
+        a /= 2;
+        s /= 2;
     }
     to
 }
@@ -89,16 +84,13 @@ fn put_names(out: &mut [u8], at: usize, names: &[u64], pattern: u32) -> usize
     requires { at + length (names_text false (names_in names.now) pattern) ≤ length out.old }
     ensures { Wrote at (names_text false (names_in names.now) pattern) out.old out.new result }
 {
-    let count = name::count(names);
     let mut to = at;
     let mut behind = false;
     let mut p = pattern;
-    let mut i = 0;
-    while i < count {
+    for i in 0..name::count(names) {
         to = put_yes(out, to, behind, name::at(names, i), p);
         behind = behind | (p % 2 == 1);
-        p = p / 2;
-        i += 1;
+        p /= 2;
     }
     to
 }
@@ -119,10 +111,8 @@ fn put_patterns(out: &mut [u8], at: usize, names: &[u64], patterns: &[u32]) -> u
     ensures { Wrote at (joined (pattern_line (names_in names.now)) patterns.now) out.old out.new result }
 {
     let mut to = at;
-    let mut k = 0;
-    while k < patterns.len() {
-        to = put_pattern(out, to, names, patterns[k]);
-        k += 1;
+    for pattern in patterns {
+        to = put_pattern(out, to, names, *pattern);
     }
     to
 }

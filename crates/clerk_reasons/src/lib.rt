@@ -35,26 +35,26 @@ fn put_head(out: &mut [u8], at: usize, mark: u8, w: Name) -> usize
 }
 
 // The words of a kind.
+#[tactic(auto, unfolding(crate::specs::Lines::kind_of))]
+fn words_of(kind: u32) -> &'static [u8]
+    ensures { result.now ≡ kind_words (kind_of kind) }
+{
+    match kind {
+        1 => b"held",
+        2 => b"closed",
+        3 => b"trigger not met",
+        4 => b"home not open",
+        5 => b"condition false",
+        _ => b"condition unknown",
+    }
+}
+
+// They are put into the space.
 fn put_words(out: &mut [u8], at: usize, kind: u32) -> usize
     requires { at + length (kind_words (kind_of kind)) ≤ length out.old }
     ensures { Wrote at (kind_words (kind_of kind)) out.old out.new result }
 {
-    if kind == 1 {
-        return space::put_text(out, at, b"held");
-    }
-    if kind == 2 {
-        return space::put_text(out, at, b"closed");
-    }
-    if kind == 3 {
-        return space::put_text(out, at, b"trigger not met");
-    }
-    if kind == 4 {
-        return space::put_text(out, at, b"home not open");
-    }
-    if kind == 5 {
-        return space::put_text(out, at, b"condition false");
-    }
-    space::put_text(out, at, b"condition unknown")
+    space::put_text(out, at, words_of(kind))
 }
 
 // What is told of a rule on line `line`: its kind, and its own words.
@@ -166,10 +166,8 @@ fn put_lines(
         out.old out.new result }
 {
     let mut to = 0;
-    let mut i = 0;
-    while i < reasons.len() {
-        to = put_reason(out, to, sheet, starts, heads, marks, reasons[i]);
-        i += 1;
+    for reason in reasons {
+        to = put_reason(out, to, sheet, starts, heads, marks, *reason);
     }
     to
 }

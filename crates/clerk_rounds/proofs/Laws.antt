@@ -1,7 +1,7 @@
 -- The counts of a sheet and the lines of a circle, piece by piece, in the form in which the functions' answers need them.
 use Prim.Native.Nat.{ℕ, zero, suc, ◌+◌, ◌-◌, ◌*◌, ◌/◌, ◌%◌, ◌<◌, ◌≤◌}
 use mathlib.Core.Path.{◌≡◌, refl, sym, ◌∙◌, ap}
-use mathlib.Core.Bool.{true, false, cond}
+use mathlib.Core.Bool.{Bool, true, false, cond}
 use mathlib.Core.List.{List, [], ◌∷◌, ◌++◌, append_assoc}
 use mathlib.Core.Logic.{inl, inr}
 use native.Mathlib.Omega.{arith}
@@ -28,7 +28,8 @@ use Rattle.name.specs.Names.{name_of}
 use Rattle.sheet_tables.specs.declared.Heads.{Heads}
 use Rattle.sheet_tables.specs.Heads.{Sized}
 use Rattle.graph_tests.specs.declared.Test.{Test}
-use Rattle.graph_order.specs.declared.Sorting.{Sorting}
+use Rattle.std.specs.Prelude as Code
+use Rattle.std.specs.Prelude.{Some, None, is_some}
 use Rattle.graph_order.specs.Answers.{as_sorting}
 use Rattle.graph_order.proofs.Callers.{sort_none, sort_some}
 use Rattle.graph_circle.specs.declared.Circle.{Circle}
@@ -493,30 +494,41 @@ module _ (n : ℕ) (few : n ≤ status_limit) (into : Into) (c : Circle) (is : c
   circle_back = rw is (take_at found (replicate (node_room - length found) 0) (length found) refl)
 
 -- by the testing order
-module _ (h : Heads) (rules leaves : ℕ) (words : List ℕ) (rows : List Test) (n : ℕ) (sum : n ≡ h.stages + h.miles) (s : Sorting)
+module _ (h : Heads) (rules leaves : ℕ) (words : List ℕ) (rows : List Test) (n : ℕ) (sum : n ≡ h.stages + h.miles) (s : Code.Option (List ℕ))
     (sorted : s ≡ as_sorting (order_for (n * 2) (tests_into words rows))) where
   abbrev graph : Into
   graph = tests_into words rows
 
-  ordered : s.found ≡ true → sheet_text h rules leaves words rows ≡ counts_text h rules leaves
+  ordered : is_some s ≡ true → sheet_text h rules leaves words rows ≡ counts_text h rules leaves
   unfolding sheet_text
-  ordered t = rw (← sum, sort_some (n * 2) graph s sorted t)
+  ordered t = go s refl t
+    where
+      go : (x : Code.Option (List ℕ)) → s ≡ x → is_some x ≡ true → sheet_text h rules leaves words rows ≡ counts_text h rules leaves
+      go (Some o) e t = rw (← sum, sort_some (n * 2) graph s sorted o e)
+      go None e t = cc
 
-  stuck : s.found ≡ false → sheet_text h rules leaves words rows ≡ cycle_text h words rows (circle_for (n * 2) (tests_into words rows))
+  stuck : is_some s ≡ false → sheet_text h rules leaves words rows ≡ cycle_text h words rows (circle_for (n * 2) (tests_into words rows))
   unfolding sheet_text
-  stuck t = rw (← sum, sort_none (n * 2) graph s sorted t)
+  stuck t = go s refl t
+    where
+      go : (x : Code.Option (List ℕ)) → s ≡ x → is_some x ≡ false
+          → sheet_text h rules leaves words rows ≡ cycle_text h words rows (circle_for (n * 2) (tests_into words rows))
+      go (Some o) e t = cc
+      go None e t = rw (← sum, sort_none (n * 2) graph s sorted e)
 
   module _ (o : List ℕ) where
-    pub sheet_counts : s.found ≡ true → length (sheet_text h rules leaves words rows) ≤ length o → length (counts_text h rules leaves) ≤ length o
-    sheet_counts t fits = rw (ordered t) at fits
+    pub sheet_counts : (b : Bool) → b ≡ is_some s → b ≡ true → length (sheet_text h rules leaves words rows) ≤ length o
+        → length (counts_text h rules leaves) ≤ length o
+    sheet_counts b e t fits = rw (ordered (sym e ∙ t)) at fits
 
-    pub sheet_counted : s.found ≡ true → (o1 : List ℕ) (r : ℕ) → Wrote 0 (counts_text h rules leaves) o o1 r
+    pub sheet_counted : (b : Bool) → b ≡ is_some s → b ≡ true → (o1 : List ℕ) (r : ℕ) → Wrote 0 (counts_text h rules leaves) o o1 r
         → Wrote 0 (sheet_text h rules leaves words rows) o o1 r
-    sheet_counted t o1 r v = rw (ordered t) v
+    sheet_counted b e t o1 r v = rw (ordered (sym e ∙ t)) v
 
-    module _ (t : s.found ≡ false) (few : n ≤ status_limit) (c : Circle) (is : c ≡ as_circle (circle_for (n * 2) (tests_into words rows))) where
+    module _ (b : Bool) (e : b ≡ is_some s) (t : b ≡ false) (few : n ≤ status_limit)
+        (c : Circle) (is : c ≡ as_circle (circle_for (n * 2) (tests_into words rows))) where
       cycle_is : sheet_text h rules leaves words rows ≡ cycle_text h words rows (take c.len c.nodes)
-      cycle_is = stuck t ∙ ap (cycle_text h words rows) (sym (circle_back n few graph c is))
+      cycle_is = stuck (sym e ∙ t) ∙ ap (cycle_text h words rows) (sym (circle_back n few graph c is))
 
       pub sheet_cycle : length (sheet_text h rules leaves words rows) ≤ length o → length (cycle_text h words rows (take c.len c.nodes)) ≤ length o
       sheet_cycle fits = rw cycle_is at fits

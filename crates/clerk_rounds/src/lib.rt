@@ -154,10 +154,8 @@ fn put_round(
         out.old out.new result }
 {
     let mut to = at;
-    let mut i = 0;
-    while i < circle.len {
+    for i in 0..circle.len {
         to = put_place(out, to, heads, tests, words, circle, i);
-        i += 1;
     }
     to
 }
@@ -190,7 +188,7 @@ pub fn put_sheet(
 {
     let statuses = heads.stages + heads.miles;
     let sorted = graph_edges::testing_order(tests, words, statuses);
-    if sorted.found {
+    if sorted.is_some() {
         return put_counts(out, heads, rules, leaves);
     }
     put_cycle(

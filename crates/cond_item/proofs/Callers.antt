@@ -1,31 +1,21 @@
 -- For callers: what the answer for a part of a condition tells of it, whatever the part is and whatever the line.
 use Prim.Native.Nat.{ℕ, ◌+◌, ◌-◌, ◌≤◌}
-use mathlib.Core.Path.{◌≡◌, refl, sym, ◌∙◌, ap}
+use mathlib.Core.Path.{◌≡◌, refl, sym, ◌∙◌}
 use mathlib.Core.List.{List}
-use native.Mathlib.Omega.{arith}
 use lib.ListN.{length, take, drop, replicate}
 use lib.Seq.{drop-drop, take_at, length-take-le}
+use Rattle.std.specs.Prelude.{Result, Ok, Err}
 use Rattle.meaning.specs.Reading.{Got, got, wrong, Reader}
 use Rattle.meaning.specs.Condition.{Leaf}
-use Rattle.theory.specs.Reading.Answer.{as_read}
 use Rattle.theory.specs.Reading.Told.{took}
-use Rattle.theory.specs.Reading.Answered.{behind, Ends, bytes, fault, Kind, answered_found, answered_wrong}
+use Rattle.theory.specs.Reading.Answered.{behind, Ends}
+use Rattle.theory.specs.Reading.Piece.{as_piece, Refuses, piece_took, piece_refuses}
+use Rattle.reply.specs.declared.Fault.{Fault}
+use Rattle.reply.specs.Faults.{fault_of}
 use Rattle.cond_item.specs.declared.Place.{Place}
-use Rattle.cond_item.specs.declared.CondRead.{CondRead}
-use Rattle.cond_item.specs.declared.CondRead.TheVariants.{At, Refused}
 use Rattle.cond_item.specs.Answers.{place_at, as_place, cleared, stored_by, Stored, Within, further}
 
 module _ {A : Type 0} (ws : A → List ℕ) (ls : A → List Leaf) where
-  abbrev pub place_kind : ℕ → ℕ → Kind A CondRead
-  place_kind top leaves =
-      record {
-        good = place_at ws ls top leaves;
-        bad = Refused;
-        size = elim [ At p ↦ bytes p.bytes | Refused k ↦ fault k ];
-        of_good = λ a n. refl;
-        of_bad = λ k. refl;
-      }
-
   -- the part for which a place stands
   pub record Placed (to : ℕ → ℕ) (P : A → ℕ → Type 0) (r : Reader A) (s : List ℕ) (top leaves : ℕ) (p : Place) : Type 0 where
     pub value : A
@@ -35,22 +25,19 @@ module _ {A : Type 0} (ws : A → List ℕ) (ls : A → List Leaf) where
     pub top_is : p.top ≡ top + length (ws value)
     pub leaves_is : p.leaves ≡ leaves + length (ls value)
 
-  module _ {to : ℕ → ℕ} {P : A → ℕ → Type 0} {r : Reader A} {s : List ℕ} (ends : Ends to P r s) (top leaves : ℕ) (c : CondRead)
+  module _ {to : ℕ → ℕ} {P : A → ℕ → Type 0} {r : Reader A} {s : List ℕ} (ends : Ends to P r s) (top leaves : ℕ) (c : Result Place Fault)
       (is : c ≡ as_place ws ls s top leaves (r 0 s)) where
-    pub placed : (p : Place) → c ≡ At p → Placed to P r s top leaves p
+    pub placed : (p : Place) → c ≡ Ok p → Placed to P r s top leaves p
     placed p e =
-        let f = answered_found (place_kind top leaves) ends c is p.bytes (ap (place_kind top leaves).size e) in
-        let z : At p ≡ place_at ws ls top leaves f.value p.bytes = sym e ∙ f.same in
-        let t : p.top ≡ top + length (ws f.value) = cc in
-        let l : p.leaves ≡ leaves + length (ls f.value) = cc in
-        record { value = f.value; holds = f.holds; within = f.within; reads = f.reads; top_is = t; leaves_is = l }
+        let f = piece_took (place_at ws ls top leaves) fault_of ends c is p e in
+        rw f.same (record { value = f.value; holds = f.holds; within = f.within; reads = f.reads; top_is = refl; leaves_is = refl })
 
-    pub unplaced : (k : ℕ) → c ≡ Refused k → (l : ℕ) → r l s ≡ wrong k l
-    unplaced k e = answered_wrong (place_kind top leaves) ends c is k (ap (place_kind top leaves).size e)
+    pub unplaced : (e : Fault) → c ≡ Err e → Refuses fault_of r s e
+    unplaced e z = piece_refuses (place_at ws ls top leaves) fault_of ends c is e z
 
   -- a part that was read behind the first n bytes of s: it lies in s, and further back it is told so
   module _ {to : ℕ → ℕ} {P : A → ℕ → Type 0} {r : Reader A} (n : ℕ) (s v : List ℕ) (at : v ≡ drop n s) (h : n ≤ length s) (ends : Ends to P r v)
-      (top leaves : ℕ) (c : CondRead) (is : c ≡ as_place ws ls v top leaves (r 0 v)) where
+      (top leaves : ℕ) (c : Result Place Fault) (is : c ≡ as_place ws ls v top leaves (r 0 v)) where
     pub place_within : Within s n c
     place_within = go ends
       where
@@ -69,22 +56,19 @@ module _ {A : Type 0} (ws : A → List ℕ) (ls : A → List Leaf) where
 pub cleared_below : (was : List ℕ) (top : ℕ) → top ≤ length was → take top (cleared was top) ≡ take top was
 cleared_below was top h = take_at (take top was) (replicate (length was - top) 0) top (length-take-le top was h)
 
--- the lent words, by the answer r of any kind: where a part was read they are its own, where it is refused they are cleared
-module _ {A B : Type 0} (c : Kind A B) (ws : A → List ℕ) (s was is : List ℕ) (top : ℕ) (g : Got A) (r : B) (told : r ≡ as_read c.good c.bad s g)
-    (h : Stored ws was is top g) where
-  pub stored_read : (n : ℕ) → c.size r ≡ bytes n → is ≡ stored_by ws was top g
-  stored_read n e = go g told h
+-- the lent words, by the answer r: where a part was read they are its own, where it is refused they are cleared
+module _ {A B E : Type 0} (good : A → ℕ → B) (bad : ℕ → E) (ws : A → List ℕ) (s was is : List ℕ) (top : ℕ) (g : Got A) (r : Result B E)
+    (told : r ≡ as_piece good bad s g) (h : Stored ws was is top g) where
+  pub stored_read : (b : B) → r ≡ Ok b → is ≡ stored_by ws was top g
+  stored_read b e = go g (sym e ∙ told) h
     where
-      go : (g : Got A) → r ≡ as_read c.good c.bad s g → Stored ws was is top g → is ≡ stored_by ws was top g
+      go : (g : Got A) → ◌≡◌ {A = Result B E} (Ok b) (as_piece good bad s g) → Stored ws was is top g → is ≡ stored_by ws was top g
       go (got a l t) q h = h
-      go (wrong k l) q h = let y : bytes n ≡ fault k = sym e ∙ ap c.size q ∙ c.of_bad k in let z : ◌≡◌ {A = ℕ} 0 1 = cc in absurd (omega arith)
+      go (wrong k l) q h = cc
 
-  pub stored_cleared : (k : ℕ) → c.size r ≡ fault k → length is ≡ length was → (end : List ℕ) → end ≡ cleared is top → end ≡ stored_by ws was top g
-  stored_cleared k e long end q = go g told h
+  pub stored_cleared : (e : E) → r ≡ Err e → length is ≡ length was → (end : List ℕ) → end ≡ cleared is top → end ≡ stored_by ws was top g
+  stored_cleared e z long end q = go g (sym z ∙ told) h
     where
-      go : (g : Got A) → r ≡ as_read c.good c.bad s g → Stored ws was is top g → end ≡ stored_by ws was top g
-      go (got a l t) y h =
-          let x : fault k ≡ bytes (length s - length t) = sym e ∙ ap c.size y ∙ c.of_good a _ in
-          let z : ◌≡◌ {A = ℕ} 0 1 = cc in
-          absurd (omega arith)
+      go : (g : Got A) → ◌≡◌ {A = Result B E} (Err e) (as_piece good bad s g) → Stored ws was is top g → end ≡ stored_by ws was top g
+      go (got a l t) y h = cc
       go (wrong n l) y h = q ∙ rw (h, long)

@@ -1,5 +1,5 @@
 -- What the code answers for a part of a condition, and what the lent words then are.
-use Rattle.std.specs.Prelude.{ℕ, ◌+◌, ◌-◌, ◌*◌, ◌≤◌, ◌≡◌, Bool, List, [], ◌∷◌, ◌++◌, length, take, drop, set, replicate}
+use Rattle.std.specs.Prelude.{ℕ, ◌+◌, ◌-◌, ◌*◌, ◌≤◌, ◌≡◌, Bool, List, [], ◌∷◌, ◌++◌, length, take, drop, set, replicate, Result, Ok, Err}
 use Rattle.std.proofs.lemmas.List.Edits.{sets}
 use Rattle.meaning.specs.Text.{text}
 use Rattle.meaning.specs.Refusal.{COND}
@@ -8,21 +8,21 @@ use Rattle.meaning.specs.Reading.{Got, got, wrong, due}
 use Rattle.meaning.specs.Name.{Name}
 use Rattle.meaning.specs.Condition.{Leaf}
 use Rattle.limits.specs.Sizes.{word_room}
-use Rattle.theory.specs.Reading.Answer.{as_read}
+use Rattle.theory.specs.Reading.Piece.{as_piece}
+use Rattle.reply.specs.declared.Fault.{Fault}
+use Rattle.reply.specs.Faults.{fault_of}
 use Rattle.cond_value.specs.Flat.{leaf_word}
 use Rattle.cond_item.specs.declared.Place.{Place}
-use Rattle.cond_item.specs.declared.CondRead.{CondRead}
-use Rattle.cond_item.specs.declared.CondRead.TheVariants.{At, Refused}
 
 -- a part with these words and leaves, read behind `top` words and `leaves` leaves: its bytes, and the words and leaves that there are now
-abbrev pub place_at : {A : Type 0} → (A → List ℕ) → (A → List Leaf) → ℕ → ℕ → A → ℕ → CondRead
-place_at ws ls top leaves a n = At (record { bytes = n; top = top + length (ws a); leaves = leaves + length (ls a) })
+abbrev pub place_at : {A : Type 0} → (A → List ℕ) → (A → List Leaf) → ℕ → ℕ → A → ℕ → Place
+place_at ws ls top leaves a n = record { bytes = n; top = top + length (ws a); leaves = leaves + length (ls a) }
 
-abbrev pub as_place : {A : Type 0} → (A → List ℕ) → (A → List Leaf) → List ℕ → ℕ → ℕ → Got A → CondRead
-as_place ws ls s top leaves g = as_read (place_at ws ls top leaves) Refused s g
+abbrev pub as_place : {A : Type 0} → (A → List ℕ) → (A → List Leaf) → List ℕ → ℕ → ℕ → Got A → Result Place Fault
+as_place ws ls s top leaves g = as_piece (place_at ws ls top leaves) fault_of s g
 
 -- a leaf, negated or not
-abbrev pub as_item : Bool → List ℕ → ℕ → ℕ → Got Leaf → CondRead
+abbrev pub as_item : Bool → List ℕ → ℕ → ℕ → Got Leaf → Result Place Fault
 as_item neg s top leaves g = as_place (λ x. leaf_word neg x ∷ []) (λ x. x ∷ []) s top leaves g
 
 -- the lent words: the leaf's at `top`; where it is refused, as they were
@@ -53,19 +53,19 @@ pub record Ready (statuses fields : List Name) (was : List ℕ) (top leaves : �
   pub room : word_room ≤ length was
 
 -- what was read behind the first n bytes of s: it lies in s, and it is told from the start of s
-abbrev pub Within : List ℕ → ℕ → CondRead → Type 0
-Within s n (At p) = n + p.bytes ≤ length s
-Within s n (Refused k) = Unit {0}
+abbrev pub Within : List ℕ → ℕ → Result Place Fault → Type 0
+Within s n (Ok p) = n + p.bytes ≤ length s
+Within s n (Err e) = Unit {0}
 
-abbrev pub further : ℕ → CondRead → CondRead
-further n (At p) = At (record { bytes = n + p.bytes; top = p.top; leaves = p.leaves })
-further n (Refused k) = Refused k
+abbrev pub further : ℕ → Result Place Fault → Result Place Fault
+further n (Ok p) = Ok (record { bytes = n + p.bytes; top = p.top; leaves = p.leaves })
+further n (Err e) = Err e
 
 -- a group whose condition was read behind the first byte of s, and its closing parenthesis
-abbrev pub closing : Place → Got (Unit {0}) → CondRead
-closing p (got u l t) = At (record { bytes = 1 + p.bytes + 1; top = p.top; leaves = p.leaves })
-closing p (wrong n l) = Refused n
+abbrev pub closing : Place → Got (Unit {0}) → Result Place Fault
+closing p (got u l t) = Ok (record { bytes = 1 + p.bytes + 1; top = p.top; leaves = p.leaves })
+closing p (wrong n l) = Err (fault_of n)
 
-abbrev pub closed_by : List ℕ → CondRead → CondRead
-closed_by s (At p) = closing p (due COND (text ")") 0 (drop (1 + p.bytes) s))
-closed_by s (Refused k) = Refused k
+abbrev pub closed_by : List ℕ → Result Place Fault → Result Place Fault
+closed_by s (Ok p) = closing p (due COND (text ")") 0 (drop (1 + p.bytes) s))
+closed_by s (Err e) = Err e

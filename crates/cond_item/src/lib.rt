@@ -8,8 +8,7 @@ ghost use Rattle.name.specs.Names.{names_in};
 ghost use Rattle.cond_value.specs.Flat.{bit, join};
 ghost use Rattle.cond_item.specs.Answers.{as_item, item_space, cleared, Ready, Within, further, closed_by};
 
-use cond_leaf::LeafRead;
-use text::Bytes;
+use reply::Fault;
 
 // How far a condition was read: its bytes, and the words and leaves that there are behind it.
 #[derive(Clone, Copy)]
@@ -19,13 +18,8 @@ pub struct Place {
     pub leaves: usize,
 }
 
-#[derive(Clone, Copy)]
-pub enum CondRead {
-    At(Place),
-    Refused(u8),
-}
-
 // The leaf at the start of `s` as an item: its word is stored.
+#[tactic(auto, using(crate::proofs::Steps::storing))]
 pub fn leaf_item(
     s: &[u8],
     statuses: &[u64],
@@ -34,28 +28,24 @@ pub fn leaf_item(
     top: usize,
     leaves: usize,
     neg: bool,
-) -> CondRead
+) -> Result<Place, Fault>
     requires { Ready (names_in statuses.now) (names_in fields.now) words.old top leaves }
     ensures { (result ≡ as_item neg s.now top leaves
         (read_leaf (names_in statuses.now) (names_in fields.now) leaves 0 s.now))
         × (words.new ≡ item_space neg words.old top
         (read_leaf (names_in statuses.now) (names_in fields.now) leaves 0 s.now)) }
 {
-    let r = cond_leaf::read_leaf(s, statuses, fields, leaves, neg);
-    match r {
-        LeafRead::Refused(k) => CondRead::Refused(k),
-        LeafRead::Word(w, n) => {
-            words[top] = w;
-            CondRead::At(Place {
-                bytes: n,
-                top: top + 1,
-                leaves: leaves + 1,
-            })
-        }
-    }
+    let leaf = cond_leaf::read_leaf(s, statuses, fields, leaves, neg)?;
+    words[top] = leaf.value;
+    Ok(Place {
+        bytes: leaf.bytes,
+        top: top + 1,
+        leaves: leaves + 1,
+    })
 }
 
 // The joining word, 1 for an or, is stored where something stands before in the list. The next place for a word.
+#[tactic(auto, using(crate::proofs::Steps::joining))]
 pub fn join_word(words: &mut [u64], top: usize, joined: bool, or: bool) -> usize
     requires { top < length words.old }
     ensures { (words.new ≡ sets words.old top (join joined (bit or))) × (result ≡ top + length (join joined (bit or))) }
@@ -69,48 +59,38 @@ pub fn join_word(words: &mut [u64], top: usize, joined: bool, or: bool) -> usize
 }
 
 // What was read behind the first `n` bytes of `s`, told from the start of `s`.
-pub fn behind(s: &[u8], n: usize, r: CondRead) -> CondRead
+#[tactic(auto, using(crate::proofs::Steps::shifting))]
+pub fn behind(s: &[u8], n: usize, r: Result<Place, Fault>) -> Result<Place, Fault>
     requires { Within s.now n r }
     ensures { result ≡ further n r }
 {
-    match r {
-        CondRead::Refused(k) => CondRead::Refused(k),
-        CondRead::At(q) => CondRead::At(Place {
-            bytes: n + q.bytes,
-            top: q.top,
-            leaves: q.leaves,
-        }),
-    }
+    let q = r?;
+    Ok(Place {
+        bytes: n + q.bytes,
+        ..q
+    })
 }
 
 // The group whose parenthesis is the first byte of `s`, where its condition was read behind that.
-pub fn closed(s: &[u8], r: CondRead) -> CondRead
+#[tactic(auto, using(crate::proofs::Steps::closes))]
+pub fn closed(s: &[u8], r: Result<Place, Fault>) -> Result<Place, Fault>
     requires { Within s.now 1 r }
     ensures { result ≡ closed_by s.now r }
 {
-    let CondRead::At(q) = r else {
-        return r;
-    };
+    let q = r?;
     let end = 1 + q.bytes;
-    let d = text::due_text(text::rest(s, end), b")", reply::COND);
-    match d {
-        Bytes::Refused(k) => CondRead::Refused(k),
-        Bytes::Read(_) => CondRead::At(Place {
-            bytes: end + 1,
-            top: q.top,
-            leaves: q.leaves,
-        }),
-    }
+    let close = text::due_text(text::rest(s, end), b")", Fault::Cond)?;
+    Ok(Place {
+        bytes: end + close,
+        ..q
+    })
 }
 
 // The words from `top` on are cleared.
+#[tactic(auto, using(crate::proofs::Steps::cleared_all))]
 pub fn clear(words: &mut [u64], top: usize)
     requires { top ≤ length words.old }
     ensures { words.new ≡ cleared words.old top }
 {
-    let mut i = top;
-    while i < words.len() {
-        words[i] = 0;
-        i += 1;
-    }
+    words[top..].fill(0);
 }

@@ -6,17 +6,19 @@ use mathlib.Core.List.{List}
 use native.Mathlib.Omega.{arith}
 use lib.ListN.{length, take, drop}
 use lib.Seq.{sets}
+use Rattle.std.specs.Prelude.{Result, Ok, Err}
 use Rattle.meaning.specs.Limits.{leaf_limit}
 use Rattle.meaning.specs.Reading.{got, wrong}
 use Rattle.meaning.specs.Name.{Name}
 use Rattle.theory.specs.Reading.Told.{Told, took, told_weaker}
 use Rattle.theory.specs.Reading.Answered.{told_ends}
+use Rattle.theory.specs.Reading.Piece.{Refuses}
 use Rattle.theory.specs.Papers.Conditions.{told_item, told_and, told_cond}
+use Rattle.reply.specs.declared.Fault.{Fault}
+use Rattle.reply.specs.Faults.{fault_of}
 use Rattle.cond_value.proofs.Size.{length_c, length_a, length_i}
 use Rattle.cond_read.specs.Parts.{Kind, items, and_lists, conditions, Gives}
 use Rattle.cond_item.specs.declared.Place.{Place}
-use Rattle.cond_item.specs.declared.CondRead.{CondRead}
-use Rattle.cond_item.specs.declared.CondRead.TheVariants.{At, Refused}
 use Rattle.cond_item.proofs.Callers.{placed, unplaced}
 
 -- a part behind l leaves
@@ -54,8 +56,8 @@ pub record Found (K : Kind) (s : List ℕ) (top leaves : ℕ) (q : Place) (was i
   pub space : is ≡ sets was top (K.words value)
 
 module _ (K : Kind) (s : List ℕ) (top leaves : ℕ) (was is : List ℕ) where
-  module _ (tells : Tells K) (r : CondRead) (g : Gives K s top leaves r was is) where
-    pub given_found : (q : Place) → r ≡ At q → Found K s top leaves q was is
+  module _ (tells : Tells K) (r : Result Place Fault) (g : Gives K s top leaves r was is) where
+    pub given_found : (q : Place) → r ≡ Ok q → Found K s top leaves q was is
     given_found q z =
         let f = placed K.words K.leaves (told_ends (tells leaves s)) top leaves r g.answer q z in
         record {
@@ -68,16 +70,16 @@ module _ (K : Kind) (s : List ℕ) (top leaves : ℕ) (was is : List ℕ) where
           space = rw (f.reads 0) at g.space;
         }
 
-    pub given_refused : (k : ℕ) → r ≡ Refused k → ((l : ℕ) → K.read leaves l s ≡ wrong k l) × (take top is ≡ take top was)
-    given_refused k z =
-        let e = unplaced K.words K.leaves (told_ends (tells leaves s)) top leaves r g.answer k z in
-        (e, rw (e 0) at g.space)
+    pub given_refused : (e : Fault) → r ≡ Err e → Refuses fault_of (K.read leaves) s e × (take top is ≡ take top was)
+    given_refused e z =
+        let h = unplaced K.words K.leaves (told_ends (tells leaves s)) top leaves r g.answer e z in
+        (h, rw (h.reads 0) at g.space)
 
   -- from what was read to the answer
   pub gives_found : (t : K.T) (n : ℕ) → n ≤ length s → K.read leaves 0 s ≡ got t 0 (drop n s) → (q : Place) → q.bytes ≡ n
       → q.top ≡ top + length (K.words t) → q.leaves ≡ leaves + length (K.leaves t)
-      → is ≡ sets was top (K.words t) → Gives K s top leaves (At q) was is
+      → is ≡ sets was top (K.words t) → Gives K s top leaves (Ok q) was is
   gives_found t n m e q e1 e2 e3 h = record { answer = rw (e, took s n m, ← e1, ← e2, ← e3); space = rw e h }
 
-  pub gives_refused : (k : ℕ) → K.read leaves 0 s ≡ wrong k 0 → take top is ≡ take top was → Gives K s top leaves (Refused k) was is
-  gives_refused k e h = record { answer = rw e; space = rw e h }
+  pub gives_refused : (k : ℕ) (e : Fault) → e ≡ fault_of k → K.read leaves 0 s ≡ wrong k 0 → take top is ≡ take top was → Gives K s top leaves (Err e) was is
+  gives_refused k e z f h = record { answer = rw (f, z); space = rw f h }

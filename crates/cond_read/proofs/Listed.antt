@@ -10,6 +10,7 @@ use lib.ListN.{length, take, drop, length-append, length-drop}
 use lib.Seq.{sets, take-take, drop-drop}
 use mir.Syntax.{w64}
 use mir.Val.{Fits}
+use Rattle.std.specs.Prelude.{Result, Ok, Err}
 use Rattle.meaning.specs.Limits.{leaf_limit}
 use Rattle.meaning.specs.Text.{text, begins}
 use Rattle.meaning.specs.Reading.{got, wrong, Reader, after, ◌>>=◌, give, choose, stands}
@@ -20,12 +21,12 @@ use Rattle.theory.specs.Lists.Members.{sets_append, take_sets}
 use Rattle.theory.specs.Reading.Told.{Told, Any, took, told_weaker}
 use Rattle.theory.specs.Papers.Conditions.{told_and, told_cond}
 use Rattle.text.proofs.Callers.{begins_fits, stands_here, stands_not}
+use Rattle.reply.specs.declared.Fault.{Fault}
+use Rattle.reply.specs.Faults.{fault_of}
 use Rattle.cond_value.specs.Flat.{bit, join, words_c, words_a}
 use Rattle.cond_value.proofs.Words.{bit_small}
 use Rattle.cond_value.proofs.Size.{join_length}
 use Rattle.cond_item.specs.declared.Place.{Place}
-use Rattle.cond_item.specs.declared.CondRead.{CondRead}
-use Rattle.cond_item.specs.declared.CondRead.TheVariants.{At, Refused}
 use Rattle.cond_item.specs.Answers.{Ready, further}
 use Rattle.cond_read.specs.Parts.{Kind, items, and_lists, conditions, Gives}
 use Rattle.cond_read.proofs.Kept.{Part, Tells, items_tell, ands_tell, Found, given_found, given_refused, gives_found, gives_refused}
@@ -45,7 +46,7 @@ pub record Listing (E W : Kind) (w : List ℕ) (c : ℕ) : Type 1 where
   pub step : (m l k : ℕ) (s : List ℕ)
       → reads (suc m) l k s ≡ after (E.read l k s)
       (λ e. stands w >>= λ b. choose b (reads m (l + length (E.leaves e)) >>= λ a. give (more e a)) (give (one e)))
-  pub whole : (s : List ℕ) (top leaves : ℕ) (r : CondRead) (was is : List ℕ)
+  pub whole : (s : List ℕ) (top leaves : ℕ) (r : Result Place Fault) (was is : List ℕ)
       → Gives (record { T = W.T; words = words false; leaves = W.leaves; read = reads (suc leaf_limit) }) s top leaves r was is → Gives W s top leaves r was is
 
 module _ (st fd : List Name) (neg : Bool) (d : ℕ) where
@@ -83,13 +84,13 @@ module _ (st fd : List Name) (neg : Bool) (d : ℕ) where
     whole = λ s top leaves r was is g. g;
   }
 
-further_further : (n m k : ℕ) (r : CondRead) → k ≡ n + m → further k r ≡ further n (further m r)
-further_further n m k (At p) e = ap (λ (b : ℕ). At (record { bytes = b; top = p.top; leaves = p.leaves })) (omega arith)
-further_further n m k (Refused c) e = refl
+further_further : (n m k : ℕ) (r : Result Place Fault) → k ≡ n + m → further k r ≡ further n (further m r)
+further_further n m k (Ok p) e = ap (λ (b : ℕ). Ok (record { bytes = b; top = p.top; leaves = p.leaves })) (omega arith)
+further_further n m k (Err c) e = refl
 
-further_none : (r : CondRead) → further 0 r ≡ r
-further_none (At p) = ap (λ (b : ℕ). At (record { bytes = b; top = p.top; leaves = p.leaves })) (zero-add p.bytes)
-further_none (Refused c) = refl
+further_none : (r : Result Place Fault) → further 0 r ≡ r
+further_none (Ok p) = ap (λ (b : ℕ). Ok (record { bytes = b; top = p.top; leaves = p.leaves })) (zero-add p.bytes)
+further_none (Err c) = refl
 
 module _ {E W : Kind} {w : List ℕ} {c : ℕ} (K : Listing E W w c) where
   -- the list from a member on, joined to what stands before or not
@@ -102,7 +103,7 @@ module _ {E W : Kind} {w : List ℕ} {c : ℕ} (K : Listing E W w c) where
     pub few : p.leaves ≤ leaf_limit
     pub fits : p.top ≤ 2 * p.leaves
     pub same : length now ≡ length was
-    pub rest : (r : CondRead) (is : List ℕ) → Gives (tail joined) (drop p.bytes s) p.top p.leaves r now is
+    pub rest : (r : Result Place Fault) (is : List ℕ) → Gives (tail joined) (drop p.bytes s) p.top p.leaves r now is
         → Gives W s top leaves (further p.bytes r) was is
 
   -- one member of a list
@@ -144,13 +145,13 @@ module _ {E W : Kind} {w : List ℕ} {c : ℕ} (K : Listing E W w c) where
     place : next ≡ top + length (E.words f.value ++ join j c)
     place = rw length-append (omega (arith, f.words))
 
-    member_ends : begins w (drop q.bytes t) ≡ false → Gives (tail j) t top leaves (At (record { bytes = q.bytes; top = next; leaves = q.leaves })) was is
+    member_ends : begins w (drop q.bytes t) ≡ false → Gives (tail j) t top leaves (Ok (record { bytes = q.bytes; top = next; leaves = q.leaves })) was is
     member_ends b =
         gives_found (tail j) t top leaves was is (K.one f.value) q.bytes f.within
         (stops leaf_limit leaves 0 t f.value (drop q.bytes t) (f.reads 0) b) _ refl
         (rw (K.one_words j f.value) place) (rw (K.one_leaves f.value) f.counts) (rw (K.one_words j f.value) done)
 
-    member_on : begins w (drop q.bytes t) ≡ true → (m : ℕ) → m ≡ q.bytes + length w → m ≤ length t → (r : CondRead) (end : List ℕ)
+    member_on : begins w (drop q.bytes t) ≡ true → (m : ℕ) → m ≡ q.bytes + length w → m ≤ length t → (r : Result Place Fault) (end : List ℕ)
         → Gives (tail true) (drop m t) next q.leaves r is end → Gives (tail j) t top leaves (further m r) was end
     member_on b m em hm r end g = go (K.told q.leaves (drop m t))
       where
@@ -167,13 +168,13 @@ module _ {E W : Kind} {w : List ℕ} {c : ℕ} (K : Listing E W w c) where
 
         go : Told Any (K.reads (suc leaf_limit) q.leaves) (drop m t) → Gives (tail j) t top leaves (further m r) was end
         go (Told.faulty i e) =
-            let er : r ≡ Refused i = g.answer ∙ rw (e 0) in
+            let er : r ≡ Err (fault_of i) = g.answer ∙ rw (e 0) in
             let eg : take next end ≡ take next is = rw (e 0) at g.space in
             let ek : take top end ≡ take top was = sym (take-take top next end below) ∙ ap (take top) eg ∙ take-take top next is below
             ∙ rw done (take_sets top (E.words f.value ++ join j c) was top (omega arith)) in
-            rw er (gives_refused (tail j) t top leaves was end i (on 0 ∙ rw (e 0)) ek)
+            rw er (gives_refused (tail j) t top leaves was end i (fault_of i) refl (on 0 ∙ rw (e 0)) ek)
         go (Told.found a n u h e) =
-            let er : r ≡ At (record { bytes = n; top = next + length (K.words true a); leaves = q.leaves + length (W.leaves a) }) = g.answer
+            let er : r ≡ Ok (record { bytes = n; top = next + length (K.words true a); leaves = q.leaves + length (W.leaves a) }) = g.answer
             ∙ rw (e 0, took (drop m t) n h) in
             let eg : end ≡ sets is next (K.words true a) = rw (e 0) at g.space in
             let ew : K.words j (K.more f.value a) ≡ (E.words f.value ++ join j c) ++ K.words true a = K.more_words j f.value a
@@ -206,15 +207,15 @@ module _ {E W : Kind} {w : List ℕ} {c : ℕ} (K : Listing E W w c) where
         room = omega (arith, y.room, v.same);
       }
 
-      module _ (t : List ℕ) (et : t ≡ drop p.bytes s) (r : CondRead) (mid : List ℕ) (g : Gives E t p.top p.leaves r now mid) where
+      module _ (t : List ℕ) (et : t ≡ drop p.bytes s) (r : Result Place Fault) (mid : List ℕ) (g : Gives E t p.top p.leaves r now mid) where
         -- the member is refused
-        pub list_refused : (k : ℕ) → r ≡ Refused k → Gives W s top leaves r was mid
-        list_refused k e =
-            let x = given_refused E t p.top p.leaves now mid K.tells r g k e in
-            let z = gives_refused (tail j) t p.top p.leaves now mid k (fails leaf_limit p.leaves 0 t k (x.0 0)) x.1 in
-            rw e (v.rest (Refused k) mid (rw et at z))
+        pub list_refused : (f : Fault) → r ≡ Err f → Gives W s top leaves (Err f) was mid
+        list_refused f e =
+            let x = given_refused E t p.top p.leaves now mid K.tells r g f e in
+            let z = gives_refused (tail j) t p.top p.leaves now mid x.0.number f x.0.is (fails leaf_limit p.leaves 0 t x.0.number (x.0.reads 0)) x.1 in
+            v.rest (Err f) mid (rw et at z)
 
-        module _ (q : Place) (e : r ≡ At q) where
+        module _ (q : Place) (e : r ≡ Ok q) where
           member : Found E t p.top p.leaves q now mid
           member = given_found E t p.top p.leaves now mid K.tells r g q e
 
@@ -238,7 +239,7 @@ module _ {E W : Kind} {w : List ℕ} {c : ℕ} (K : Listing E W w c) where
             stands_there : begins w (drop q.bytes t) ≡ b
             stands_there = rw (eb, en, et, drop-drop q.bytes p.bytes s)
 
-            pub list_end : not b ≡ true → Gives W s top leaves (At (record { bytes = n; top = next; leaves = q.leaves })) was is
+            pub list_end : not b ≡ true → Gives W s top leaves (Ok (record { bytes = n; top = next; leaves = q.leaves })) was is
             list_end h =
                 let z = member_ends t p.top p.leaves now mid is j q next member ex ei (stands_there ∙ not-true b h) in
                 rw en (v.rest _ is (rw et at z))
@@ -270,8 +271,8 @@ module _ {E W : Kind} {w : List ℕ} {c : ℕ} (K : Listing E W w c) where
                     (q.bytes + length w) refl there r end (rw behind g))));
               }
 
-pub list_less : (w s : List ℕ) (at n : ℕ) (r : CondRead) (q : Place) (b : Bool) → r ≡ At q → b ≡ begins w (drop n s) → not b ≡ false → n ≡ at + q.bytes
-    → (m : ℕ) → m ≡ n + length w → 1 ≤ length w → length s - m < length s - at
+pub list_less : (w s : List ℕ) (at n : ℕ) (r : Result Place Fault) (q : Place) (b : Bool) → r ≡ Ok q → b ≡ begins w (drop n s) → not b ≡ false
+    → n ≡ at + q.bytes → (m : ℕ) → m ≡ n + length w → 1 ≤ length w → length s - m < length s - at
 list_less w s at n r q b er eb h en m em long =
     let z : length w ≤ length s - n = rw (← length-drop n s) (begins_fits w (drop n s) (sym eb ∙ not-false b h)) in
     omega arith

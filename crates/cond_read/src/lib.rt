@@ -2,14 +2,15 @@
 #![tactic(auto)]
 
 ghost use Rattle.std.specs.Prelude.{◌≡◌, drop};
-ghost use Rattle.meaning.specs.Text.{text, begins};
+ghost use Rattle.meaning.specs.Text.{begins};
 ghost use Rattle.meaning.specs.ReadCondition.{condition};
 ghost use Rattle.name.specs.Names.{names_in};
 ghost use Rattle.cond_item.specs.Answers.{Ready};
 ghost use Rattle.cond_read.specs.Answers.{as_condition, stored};
 ghost use Rattle.cond_read.specs.Parts.{items, and_lists, conditions, Gives};
 
-use cond_item::{CondRead, Place};
+use cond_item::Place;
+use reply::Fault;
 
 // What stands around a part: how many more nots and groups may, and whether those that do negate it.
 #[derive(Clone, Copy)]
@@ -18,19 +19,17 @@ struct Around {
     neg: bool,
 }
 
-fn and_stands(s: &[u8], at: usize) -> bool
-    ensures { result ≡ begins (text " and ") (drop at s.now) }
+// Whether `k` stands in `s` at `at`.
+#[tactic(auto, using(crate::proofs::Listed::stands_at))]
+fn stands_at(s: &[u8], at: usize, k: &[u8]) -> bool
+    ensures { result ≡ begins k.now (drop at s.now) }
 {
-    text::starts(text::rest(s, at), b" and ")
-}
-
-fn or_stands(s: &[u8], at: usize) -> bool
-    ensures { result ≡ begins (text " or ") (drop at s.now) }
-{
-    text::starts(text::rest(s, at), b" or ")
+    text::starts(text::rest(s, at), k)
 }
 
 // A condition: and-lists joined by ` or `, behind each of which but the first an or is stored.
+// Stays: a reader of its own beside `and_list`. One for both would be no plainer: it asks at three places which of the two lists it reads (its members, its
+// text, its word), and it would have an eighth parameter.
 #[cycle(readers)]
 fn condition(
     s: &[u8],
@@ -40,32 +39,29 @@ fn condition(
     top: usize,
     leaves: usize,
     around: Around,
-) -> CondRead
+) -> Result<Place, Fault>
     requires { Ready (names_in statuses.now) (names_in fields.now) words.old top leaves }
     ensures { Gives (conditions (names_in statuses.now) (names_in fields.now) around.neg around.nest)
         s.now top leaves result words.old words.new }
 {
-    let mut at = 0;
-    let mut next = top;
-    let mut count = leaves;
+    let mut place = Place {
+        bytes: 0,
+        top,
+        leaves,
+    };
     let mut joined = false;
     loop {
-        let t = text::rest(s, at);
-        let r = and_list(t, statuses, fields, words, next, count, around);
-        let CondRead::At(q) = r else {
-            return r;
+        let t = text::rest(s, place.bytes);
+        let q = and_list(t, statuses, fields, words, place.top, place.leaves, around)?;
+        place = Place {
+            bytes: place.bytes + q.bytes,
+            top: cond_item::join_word(words, q.top, joined, !around.neg),
+            leaves: q.leaves,
         };
-        let end = at + q.bytes;
-        next = cond_item::join_word(words, q.top, joined, !around.neg);
-        count = q.leaves;
-        if !or_stands(s, end) {
-            return CondRead::At(Place {
-                bytes: end,
-                top: next,
-                leaves: count,
-            });
+        if !stands_at(s, place.bytes, b" or ") {
+            return Ok(place);
         }
-        at = end + 4;
+        place.bytes += 4;
         joined = true;
     }
 }
@@ -80,32 +76,29 @@ fn and_list(
     top: usize,
     leaves: usize,
     around: Around,
-) -> CondRead
+) -> Result<Place, Fault>
     requires { Ready (names_in statuses.now) (names_in fields.now) words.old top leaves }
     ensures { Gives (and_lists (names_in statuses.now) (names_in fields.now) around.neg around.nest)
         s.now top leaves result words.old words.new }
 {
-    let mut at = 0;
-    let mut next = top;
-    let mut count = leaves;
+    let mut place = Place {
+        bytes: 0,
+        top,
+        leaves,
+    };
     let mut joined = false;
     loop {
-        let t = text::rest(s, at);
-        let r = item(t, statuses, fields, words, next, count, around);
-        let CondRead::At(q) = r else {
-            return r;
+        let t = text::rest(s, place.bytes);
+        let q = item(t, statuses, fields, words, place.top, place.leaves, around)?;
+        place = Place {
+            bytes: place.bytes + q.bytes,
+            top: cond_item::join_word(words, q.top, joined, around.neg),
+            leaves: q.leaves,
         };
-        let end = at + q.bytes;
-        next = cond_item::join_word(words, q.top, joined, around.neg);
-        count = q.leaves;
-        if !and_stands(s, end) {
-            return CondRead::At(Place {
-                bytes: end,
-                top: next,
-                leaves: count,
-            });
+        if !stands_at(s, place.bytes, b" and ") {
+            return Ok(place);
         }
-        at = end + 5;
+        place.bytes += 5;
         joined = true;
     }
 }
@@ -120,17 +113,17 @@ fn item(
     top: usize,
     leaves: usize,
     around: Around,
-) -> CondRead
+) -> Result<Place, Fault>
     requires { Ready (names_in statuses.now) (names_in fields.now) words.old top leaves }
     ensures { Gives (items (names_in statuses.now) (names_in fields.now) around.neg around.nest)
         s.now top leaves result words.old words.new }
 {
-    if s.len() == 0 {
-        return CondRead::Refused(reply::LINE);
+    if s.is_empty() {
+        return Err(Fault::Line);
     }
     if text::starts(s, b"not ") {
         if around.nest == 0 {
-            return CondRead::Refused(reply::COND);
+            return Err(Fault::Cond);
         }
         let t = text::rest(s, 4);
         let nest = around.nest - 1;
@@ -143,12 +136,11 @@ fn item(
         return cond_item::leaf_item(s, statuses, fields, words, top, leaves, around.neg);
     }
     if around.nest == 0 {
-        return CondRead::Refused(reply::COND);
+        return Err(Fault::Cond);
     }
     let t = text::rest(s, 1);
     let nest = around.nest - 1;
-    let neg = around.neg;
-    let inside = Around { nest, neg };
+    let inside = Around { nest, ..around };
     let r = condition(t, statuses, fields, words, top, leaves, inside);
     cond_item::closed(s, r)
 }
@@ -162,20 +154,20 @@ pub fn read_condition(
     words: &mut [u64],
     top: usize,
     leaves: usize,
-) -> CondRead
+) -> Result<Place, Fault>
     requires { Ready (names_in statuses.now) (names_in fields.now) words.old top leaves }
     ensures answer { result ≡ as_condition s.now top leaves
         (condition (names_in statuses.now) (names_in fields.now) leaves 0 s.now) }
     ensures space { words.new ≡ stored words.old top
         (condition (names_in statuses.now) (names_in fields.now) leaves 0 s.now) }
 {
-    let nest = limits::NESTING;
-    let neg = false;
-    let inside = Around { nest, neg };
-    let r = condition(s, statuses, fields, words, top, leaves, inside);
-    let CondRead::Refused(_) = r else {
-        return r;
+    let around = Around {
+        nest: limits::NESTING,
+        neg: false,
     };
-    cond_item::clear(words, top);
+    let r = condition(s, statuses, fields, words, top, leaves, around);
+    if r.is_err() {
+        cond_item::clear(words, top);
+    }
     r
 }

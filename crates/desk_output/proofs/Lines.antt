@@ -17,8 +17,7 @@ use Rattle.name.proofs.Tables.{name_at_lem}
 use Rattle.theory.specs.Writing.Lent.{Wrote, Left, left_start, left_end, left_room, left_more}
 use Rattle.step_sheet.specs.declared.Accepted.{Accepted}
 use Rattle.step_test.specs.declared.Moment.{Moment}
-use Rattle.outlook_case.specs.declared.Listed.{Listed}
-use Rattle.outlook_case.specs.declared.Listed.TheVariants.{Patterns, Many}
+use Rattle.std.specs.Prelude.{Option, Some, None}
 use Rattle.outlook_case.specs.Patterns.{answer_of, as_listed, list_space}
 use Rattle.outlook_case.proofs.Callers.{answer_few, listed_many, listed_taken}
 use Rattle.desk_rooms.specs.Rooms.{pattern_line, list_room}
@@ -122,12 +121,12 @@ module _ (a : Accepted) (m : Moment) where
       go (refused n p l) e = omega arith
 
   -- what is listed tells whether there are too many, and the array then holds the list
-  module _ (l : Listed) (told : l ≡ as_listed a m) where
-    pub outlook_many : l ≡ Many → (at : ℕ) (o o1 : List ℕ) (q : ℕ) → Wrote at many_text o o1 q → Wrote at (outlook_lines (answer_of a m)) o o1 q
+  module _ (l : Option ℕ) (told : l ≡ as_listed a m) where
+    pub outlook_many : l ≡ None → (at : ℕ) (o o1 : List ℕ) (q : ℕ) → Wrote at many_text o o1 q → Wrote at (outlook_lines (answer_of a m)) o o1 q
     unfolding outlook_lines
     outlook_many z at o o1 q v = rw (listed_many a m l told z) v
 
-    module _ (n : ℕ) (z : l ≡ Patterns n) (was ps : List ℕ) (space : ps ≡ list_space a m was) where
+    module _ (n : ℕ) (z : l ≡ Some n) (was ps : List ℕ) (space : ps ≡ list_space a m was) where
       listed_is : outlook_lines (answer_of a m) ≡ joined pattern_text (take n ps)
       unfolding outlook_lines
       listed_is = ap outlook_lines (listed_taken a m l told n z was ps space)

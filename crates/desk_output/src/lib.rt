@@ -18,7 +18,6 @@ ghost use Rattle.desk_print.specs.Lines.{pattern_text};
 ghost use Rattle.desk_output.specs.Texts.{starts_text, tasks_text, step_text};
 
 use case_read::Case;
-use outlook_case::Listed;
 use sheet_tables::Heads;
 use step_sheet::Accepted;
 use step_test::Moment;
@@ -70,7 +69,7 @@ fn put_outlook(out: &mut [u8], at: usize, sheet: Accepted, moment: Moment) -> us
 {
     let mut patterns = [0u32; limits::PARTS];
     let listed = outlook_case::list_case(sheet, moment, &mut patterns);
-    let Listed::Patterns(count) = listed else {
+    let Some(count) = listed else {
         return desk_print::put_many(out, at);
     };
     put_patterns(out, at, &patterns[..count])

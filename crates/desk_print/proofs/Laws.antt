@@ -13,7 +13,7 @@ use Rattle.meaning.specs.Number.{decimal}
 use Rattle.meaning.specs.Write.{line}
 use Rattle.meaning.specs.Desk.{refusal_text}
 use Rattle.theory.specs.Writing.Lent.{Wrote, Left, left_start, left_end, left_room, left_more, wrote_none, first_room, second_room, both_written}
-use Rattle.desk_print.specs.Lines.{start_text, pattern_text, many_text}
+use Rattle.desk_print.specs.Lines.{start_text}
 
 -- LINES
 
@@ -68,59 +68,17 @@ module _ (n : Name) (t at : ℕ) (o : List ℕ) (fits : at + length (start_text 
   start_none e = wrote_none at (start_text n t) o fits (rw (ne_eqb (t % 2) 1 e))
 
   module _ (so : t % 2 ≡ 1) where
-    start_whole : start_text n t ≡ text "start=" ++ (n ++ (10 ∷ []))
-    unfolding start_text line
-    start_whole = rw (eq-eqb (t % 2) 1 so) (simp append_assoc)
+    start_is : start_text n t ≡ line (text "start") n
+    unfolding start_text
+    start_is = rw (eq-eqb (t % 2) 1 so)
 
-    pub start_key : at + 6 ≤ length o
-    start_key = first_room at (start_text n t) (text "start=") (n ++ (10 ∷ [])) o start_whole fits
+    pub start_room : at + length (line (text "start") n) ≤ length o
+    start_room = rw start_is at fits
 
-    module _ (o1 : List ℕ) (a : ℕ) (v1 : Wrote at (text "start=") o o1 a) where
-      value_fits : a + length (n ++ (10 ∷ [])) ≤ length o1
-      value_fits = second_room at (start_text n t) (text "start=") (n ++ (10 ∷ [])) o start_whole fits o1 a v1
+    pub start_done : (o1 : List ℕ) (r : ℕ) → Wrote at (line (text "start") n) o o1 r → Wrote at (start_text n t) o o1 r
+    start_done o1 r v = rw start_is v
 
-      pub start_name : a + length n ≤ length o1
-      start_name = first_room a (n ++ (10 ∷ [])) n (10 ∷ []) o1 refl value_fits
-
-      module _ (o2 : List ℕ) (b : ℕ) (v2 : Wrote a n o1 o2 b) where
-        pub start_feed : b + 1 ≤ length o2
-        start_feed = second_room a (n ++ (10 ∷ [])) n (10 ∷ []) o1 refl value_fits o2 b v2
-
-        pub start_done : (o3 : List ℕ) (r : ℕ) → Wrote b (10 ∷ []) o2 o3 r → Wrote at (start_text n t) o o3 r
-        start_done o3 r v3 =
-            let w1 = both_written a (n ++ (10 ∷ [])) n (10 ∷ []) o1 refl value_fits o2 b v2 o3 r v3 in
-            both_written at (start_text n t) (text "start=") (n ++ (10 ∷ [])) o start_whole fits o1 a v1 o3 r w1
-
-pub ruleset starting = (start_none, start_key, start_name, start_feed, start_done)
-
--- the line of a pattern
-module _ (p at : ℕ) (o : List ℕ) (fits : at + length (pattern_text p) ≤ length o) where
-  pattern_whole : pattern_text p ≡ text "outlook=" ++ (decimal p ++ (10 ∷ []))
-  unfolding line
-  pattern_whole = simp append_assoc
-
-  pub pattern_key : at + 8 ≤ length o
-  pattern_key = first_room at (pattern_text p) (text "outlook=") (decimal p ++ (10 ∷ [])) o pattern_whole fits
-
-  module _ (o1 : List ℕ) (a : ℕ) (v : Wrote at (text "outlook=") o o1 a) where
-    pub pattern_number : a + length (decimal p ++ (10 ∷ [])) ≤ length o1
-    pattern_number = second_room at (pattern_text p) (text "outlook=") (decimal p ++ (10 ∷ [])) o pattern_whole fits o1 a v
-
-    pub pattern_done : (o2 : List ℕ) (r : ℕ) → Wrote a (decimal p ++ (10 ∷ [])) o1 o2 r → Wrote at (pattern_text p) o o2 r
-    pattern_done o2 r u = both_written at (pattern_text p) (text "outlook=") (decimal p ++ (10 ∷ [])) o pattern_whole fits o1 a v o2 r u
-
-pub ruleset patterning = (pattern_key, pattern_number, pattern_done)
-
--- the line of a refused outlook
-pub many_room : (at : ℕ) (o : List ℕ) → at + length many_text ≤ length o → at + 16 ≤ length o
-unfolding line
-many_room at o h = h
-
-pub many_done : (at : ℕ) (o o1 : List ℕ) (r : ℕ) → Wrote at (text "outlook=refused\n") o o1 r → Wrote at many_text o o1 r
-unfolding line
-many_done at o o1 r v = v
-
-pub ruleset overflowing = (many_room, many_done)
+pub ruleset starting = (start_none, start_room, start_done)
 
 -- A LINE FOR EACH NUMBER OF A LIST, whatever the line is
 module _ (f : ℕ → List ℕ) where

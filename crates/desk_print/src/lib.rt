@@ -10,6 +10,7 @@ ghost use Rattle.desk_print.specs.Lines.{start_text, pattern_text, many_text};
 use name::Name;
 
 // The line of a refusal, at the start of `out`.
+#[tactic(auto, using(crate::proofs::Laws::refusing))]
 pub fn put_refusal(out: &mut [u8], number: u8, paper: u8, line: usize) -> usize
     requires { length (refusal_text number paper line) ≤ length out.old }
     ensures { Wrote 0 (refusal_text number paper line) out.old out.new result }
@@ -28,9 +29,7 @@ pub fn put_start(out: &mut [u8], at: usize, w: Name, tasks: u32) -> usize
     if tasks % 2 != 1 {
         return at;
     }
-    let a = space::put_text(out, at, b"start=");
-    let b = name::spell(out, a, w);
-    space::put_byte(out, b, b'\n')
+    space::put_line(out, at, &b"start"[..], w)
 }
 
 // The line of a pattern.
@@ -38,8 +37,7 @@ pub fn put_pattern(out: &mut [u8], at: usize, p: u32) -> usize
     requires { at + length (pattern_text p) ≤ length out.old }
     ensures { Wrote at (pattern_text p) out.old out.new result }
 {
-    let a = space::put_text(out, at, b"outlook=");
-    space::put_number(out, a, p as u64, b'\n')
+    space::put_line(out, at, &b"outlook"[..], p as u64)
 }
 
 // The line where the outlook is refused.
@@ -47,5 +45,5 @@ pub fn put_many(out: &mut [u8], at: usize) -> usize
     requires { at + length many_text ≤ length out.old }
     ensures { Wrote at many_text out.old out.new result }
 {
-    space::put_text(out, at, b"outlook=refused\n")
+    space::put_line(out, at, &b"outlook"[..], &b"refused"[..])
 }

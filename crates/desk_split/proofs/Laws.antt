@@ -1,14 +1,17 @@
 -- Lines and papers at the start of a text, in the form in which the functions' answers need them.
 use Prim.Native.Nat.{ℕ, zero, suc, ◌+◌, ◌-◌, ◌^◌, ◌<◌, ◌≤◌}
 use mathlib.Core.Path.{◌≡◌, refl, sym, ◌∙◌, ap, ap₂}
-use mathlib.Core.Bool.{Bool, true, false, not, ◌&&◌}
+use mathlib.Core.Bool.{Bool, true, false, cond, ◌&&◌}
 use mathlib.Core.List.{List, [], ◌∷◌, ◌++◌, append-nil}
 use native.Mathlib.Omega.{arith}
 use native.Mathlib.Numerals.{add-one}
 use mir.Val.{Fits}
 use mir.Syntax.{w64}
-use borrow.Author.Tests.{eq-eqb, ne_eqb, not-true, not-false}
-use lib.Dec.{eqb}
+use borrow.Author.Tests.{eq-eqb, ne_eqb, eqb-true, eqb-false, ltb-false}
+use Rattle.std.specs.Prelude.{◌==◌, Some, None, position}
+use Rattle.std.specs.List.{position_or_len}
+use Rattle.std.proofs.lemmas.List.Quantifiers.{position-Some}
+use lib.Dec.{eqb, ltb}
 use lib.ListN.{length, take, drop, set, get_or, length-drop, length-set}
 use lib.Seq.{drop-cons, take_all, take-suc-set, append_snoc}
 use Rattle.meaning.specs.Text.{text, begins}
@@ -16,11 +19,6 @@ use Rattle.meaning.specs.Desk.{line_length, paper_length}
 use Rattle.desk_split.specs.Lines.{starts_from}
 
 -- LINES
-
-line_over : (s : List ℕ) → length s ≤ 0 → line_length s ≡ 0
-unfolding line_length
-line_over [] h = refl
-line_over (x ∷ s) h = absurd (omega arith)
 
 line_here : (x : ℕ) (s : List ℕ) → x ≡ 10 → line_length (x ∷ s) ≡ 1
 unfolding line_length
@@ -39,31 +37,41 @@ line_within (x ∷ s) = go (eqb x 10) (line_within s)
     go true h = omega arith
     go false h = omega arith
 
-module _ (s : List ℕ) (i : ℕ) (inv : line_length s ≡ i + line_length (drop i s)) where
-  pub line_stop : i < length s → get_or s i 0 ≡ 10 → (r : ℕ) → r ≡ i + 1 → r ≡ line_length s
-  line_stop h e r z =
-      let m : line_length (drop i s) ≡ 1 = rw (drop-cons s i 0 h) (line_here (get_or s i 0) (drop (suc i) s) e) in
-      omega arith
+-- up to and with the first LF
+line_stop : (s : List ℕ) (i : ℕ) → i < length s → eqb (get_or s i 0) 10 ≡ true → ((k : ℕ) → k < i → eqb (get_or s k 0) 10 ≡ false) → line_length s ≡ i + 1
+line_stop [] i h e f = absurd (omega arith)
+line_stop (x ∷ s) zero h e f = line_here x s (eqb-true x 10 e)
+line_stop (x ∷ s) (suc i) h e f =
+    line_later x s (eqb-false x 10 (f 0 (omega arith)))
+    ∙ (let m = line_stop s i (omega arith) e (λ k g. f (suc k) (omega arith)) in omega arith)
 
-  pub line_more : i < length s → (get_or s i 0 ≡ 10 → ⊥) → (j : ℕ) → j ≡ i + 1 → line_length s ≡ j + line_length (drop j s)
-  line_more h e j z =
-      let m : line_length (drop i s) ≡ suc (line_length (drop (i + 1) s)) = rw (add-one, drop-cons s i 0 h) (line_later (get_or s i 0) (drop (suc i) s) e) in
-      rw z (omega arith)
+line_none : (s : List ℕ) → length s ≤ position_or_len (λ x. x == 10) s → line_length s ≡ length s
+unfolding line_length
+line_none [] h = refl
+line_none (x ∷ s) h = go (eqb x 10) refl (line_none s)
+  where
+    go : (b : Bool) → eqb x 10 ≡ b → (length s ≤ position_or_len (λ x. x == 10) s → line_length s ≡ length s) → line_length (x ∷ s) ≡ suc (length s)
+    go true e ih = let g : suc (length s) ≤ 0 = rw e at h in absurd (omega arith)
+    go false e ih =
+        let g : suc (length s) ≤ 1 + position_or_len (λ x. x == 10) s = rw e at h in
+        line_later x s (eqb-false x 10 e) ∙ ap (λ n. suc n) (ih (omega arith))
 
-  pub line_end_lem : length s ≤ i → i ≡ line_length s
-  line_end_lem h = omega (arith, line_over (drop i s) (omega (arith, length-drop i s)))
+pub line_first : (s : List ℕ) (i : ℕ) → Some i ≡ position (λ x. x == 10) s → i + 1 ≡ line_length s
+line_first s i found =
+    let y = position-Some (λ x. x == 10) s i 0 (sym found) in
+    sym (line_stop s i y.0 y.1 y.2)
 
-pub ruleset lining = (line_stop, line_more, line_end_lem)
+pub line_whole : (s : List ℕ) → None ≡ position (λ x. x == 10) s → length s ≡ line_length s
+line_whole s found = sym (line_none s (go (ltb (position_or_len (λ x. x == 10) s) (length s)) refl (sym found)))
+  where
+    go : (b : Bool) → ltb (position_or_len (λ x. x == 10) s) (length s) ≡ b → cond b (Some (position_or_len (λ x. x == 10) s)) None ≡ None
+        → length s ≤ position_or_len (λ x. x == 10) s
+    go true e q =
+        let z : ◌≡◌ {A = ℕ} 0 1 = cc in
+        absurd (omega arith)
+    go false e q = ltb-false _ _ e
 
--- WHETHER A LAST LINE STANDS
-
-pub last_not : (starts t : Bool) → not starts ≡ true → false ≡ (starts && t)
-last_not starts t h = sym (rw (not-true starts h))
-
-pub last_so : (starts t b : Bool) → not starts ≡ false → b ≡ t → b ≡ (starts && t)
-last_so starts t b h e = e ∙ sym (rw (not-false starts h))
-
-pub ruleset lasting = (last_not, last_so)
+pub ruleset lining = (line_first, line_whole)
 
 -- PAPERS
 

@@ -1,20 +1,29 @@
 -- For callers: what an answer of this crate tells of the meaning, without a look into it.
 use Prim.Native.Nat.{ℕ}
-use mathlib.Core.Path.{◌≡◌, refl, ap}
+use mathlib.Core.Path.{◌≡◌, sym, ◌∙◌, ap}
 use mathlib.Core.List.{List}
+use Rattle.std.specs.Prelude.{Result, Ok, Err}
 use Rattle.meaning.specs.Refusal.{taken, refused}
 use Rattle.meaning.specs.Sheet.{Heads}
 use Rattle.meaning.specs.Card as M
-use Rattle.theory.specs.Requests.Numbers.{event_tells, told_taken, told_refused}
-use Rattle.event_read.specs.declared.EventRead.{EventRead}
-use Rattle.event_read.specs.Answers.{as_event_read}
+use Rattle.theory.specs.Requests.Numbers.{event_tells}
+use Rattle.reply.specs.declared.Wrong.{Wrong}
+use Rattle.reply.specs.Faults.{wrong_of}
+use Rattle.case_tables.specs.declared.Happening.{Happening}
 use Rattle.case_tables.specs.Cards.{as_happening}
+use Rattle.card_lines.proofs.Papers.{paper_took, paper_refuses}
+use Rattle.event_read.specs.Answers.{as_event_read}
 
-module _ (hd : Heads) (s : List ℕ) (r : EventRead) (is : r ≡ as_event_read hd (M.read_event hd s)) where
-  pub event_taken : r.number ≡ 0 → (c : M.Happening) × (M.read_event hd s ≡ taken c) × (r.happening ≡ as_happening hd c)
-  event_taken z =
-      let (c, e, q) = told_taken (as_event_read hd) (λ r. r.number) (λ r. r.line) (λ c. refl) (λ n p l. (refl, refl)) (event_tells hd s) r is z in
-      (c, e, ap (λ r. r.happening) q)
+module _ (hd : Heads) (s : List ℕ) (r : Result Happening Wrong) (is : r ≡ as_event_read hd (M.read_event hd s)) where
+  pub event_taken : (c : Happening) → r ≡ Ok c → (a : M.Happening) × (M.read_event hd s ≡ taken a) × (c ≡ as_happening hd a)
+  event_taken = paper_took (as_happening hd) (λ n p l. wrong_of n l) (M.read_event hd s) r is
 
-  pub event_refused : (r.number ≡ 0 → ⊥) → M.read_event hd s ≡ refused r.number 3 r.line
-  event_refused = told_refused (as_event_read hd) (λ r. r.number) (λ r. r.line) (λ c. refl) (λ n p l. (refl, refl)) (event_tells hd s) r is
+  pub event_refused : (w : Wrong) → r ≡ Err w → (n : ℕ) × (w ≡ wrong_of n w.line) × (M.read_event hd s ≡ refused n 3 w.line)
+  event_refused w e = go (paper_refuses (as_happening hd) (λ n p l. wrong_of n l) (M.read_event hd s) r is w e)
+    where
+      go : (n : ℕ) × (p : ℕ) × (l : ℕ) × (M.read_event hd s ≡ refused n p l) × (w ≡ wrong_of n l)
+          → (n : ℕ) × (w ≡ wrong_of n w.line) × (M.read_event hd s ≡ refused n 3 w.line)
+      go (n, p, l, x, y) =
+          let z : p ≡ 3 = ((event_tells hd s).told n p l x).2 in
+          let line : l ≡ w.line = sym (ap (λ w. w.line) y) in
+          (n, y ∙ ap (λ l. wrong_of n l) line, x ∙ ap (λ p. refused n p l) z ∙ ap (λ l. refused n 3 l) line)

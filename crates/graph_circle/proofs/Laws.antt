@@ -1,5 +1,5 @@
 -- The functions' answers in return form: the premises are what is known at a place, the conclusion is what is asked there.
-use Prim.Native.Nat.{ℕ, suc, ◌+◌, ◌*◌, ◌/◌, ◌%◌, ◌^◌, ◌-◌, ◌≤◌, ◌<◌}
+use Prim.Native.Nat.{ℕ, zero, suc, ◌+◌, ◌*◌, ◌%◌, ◌^◌, ◌-◌, ◌≤◌, ◌<◌}
 use mathlib.Core.Path.{◌≡◌, refl, sym, ◌∙◌, ap, ap₂}
 use mathlib.Core.Bool.{Bool, true, false, cond}
 use mathlib.Core.List.{List, [], ◌∷◌, ◌++◌}
@@ -8,27 +8,29 @@ use mathlib.Core.Logic.{inl}
 use native.Mathlib.Omega.{arith}
 use native.Mathlib.Numerals.{add-one}
 use native.Mathlib.Decide.{ℕ_discrete}
+use mir.Syntax.{w64}
 use lib.Dec.{eqb, ltb, leb-suc-suc}
-use lib.ListN.{length, get_or, take, drop, set, replicate, length-drop, drop_of_length-le}
-use lib.Seq.{length-take-le, take-suc, drop-cons, get_or-drop, set_at, append_snoc}
+use lib.ListN.{length, take, drop, replicate}
 use lib.Pow.{pow_pos}
 use lib.Bits.{bit_xor}
 use borrow.Author.Tests.{eq-eqb, ne_eqb, lt-ltb}
+use Rattle.std.specs.Prelude as Code
+use Rattle.std.specs.Prelude.{Some, None, slice_get, position}
+use Rattle.std.specs.Int.{trailing_zeros}
+use Rattle.std.specs.List.{position_or_len}
+use Rattle.std.proofs.lemmas.List.{drop-replicate}
+use Rattle.std.proofs.lemmas.List.Recursion.{is_position_or_len}
 use Rattle.meaning.specs.Text.{In, any, is_in, from}
 use Rattle.meaning.specs.Graph.{without}
 use Rattle.meaning.specs.Circle.{left_by, stuck, up_to}
 use Rattle.limits.specs.Sizes.{node_room}
-use Rattle.graph_order.specs.declared.Free.{Free}
-use Rattle.graph_order.specs.declared.Free.TheVariants.{Node, Stuck}
-use Rattle.graph_order.specs.Masks.{bit_at, has, members, mask_into, width}
+use Rattle.graph_order.specs.Masks.{has, members, mask_into, width}
 use Rattle.graph_order.specs.Answers.{as_free}
-use Rattle.graph_order.proofs.Bits.{has_below}
+use Rattle.graph_order.proofs.Bits.{has_below, has_lowest}
 use Rattle.graph_order.proofs.Members.{members_from, member_has, members_all, members_here, members_past, members_end, members_full}
 use Rattle.graph_order.proofs.Laws.{free_of, node_of, answered, node_is, node_below, without_below, without_members}
 use Rattle.graph_circle.specs.declared.Circle.{Circle}
-use Rattle.graph_circle.specs.declared.Found.{Found}
-use Rattle.graph_circle.specs.declared.Found.TheVariants as L
-use Rattle.graph_circle.specs.Answers.{first_of, as_found, as_circle}
+use Rattle.graph_circle.specs.Answers.{as_circle}
 
 -- WHAT IS LEFT WHEN NONE IS FREE: of the nodes left as of all
 
@@ -59,22 +61,22 @@ module _ (masks : List ℕ) (n : ℕ) where
         let z : n - i ≡ suc (n - (i + 1)) = omega arith in
         s.same ∙ ap (λ m. stuck (mask_into masks) m (members left)) z
 
-    pub taking_stuck : (p : Free) → i < n → p ≡ as_free (free_of masks left) → p ≡ Stuck → members left ≡ stuck (mask_into masks) n (from 0 n)
+    pub taking_stuck : (p : Code.Option ℕ) → i < n → p ≡ as_free (free_of masks left) → p ≡ None → members left ≡ stuck (mask_into masks) n (from 0 n)
     taking_stuck p l e t = sym (one_left l ∙ ap onward (answered (free_of masks left) p e ∙ ap node_of t))
 
-    pub taking_shifts : (p : Free) (k : ℕ) → p ≡ as_free (free_of masks left) → p ≡ Node k → n ≤ node_room → k < width
-    taking_shifts p k e t h = omega (arith, node_below masks left n s.below p k e t)
+    module _ (k : ℕ) (e : Some k ≡ as_free (free_of masks left)) (h : n ≤ node_room) where
+      pub taking_shifts : k < width
+      taking_shifts = omega (arith, node_below masks left n s.below k e)
 
-    pub taking_next : (p : Free) (k : ℕ) → p ≡ as_free (free_of masks left) → p ≡ Node k → n ≤ node_room → i < n → (left' i' : ℕ)
-        → left' ≡ bit_xor left (1 * 2 ^ k % 18446744073709551616) → i' ≡ i + 1 → Taking masks n left' i'
-    taking_next p k e t h l left' i' x z =
-        record {
-          within = omega arith;
-          below = without_below masks left n s.below p k e t h left' x;
-          same = one_left l
-              ∙ ap onward (node_is masks left n s.below p k e t)
-              ∙ ap₂ (λ m l. stuck (mask_into masks) (n - m) l) (sym z) (without_members masks left n s.below p k e t h left' x);
-        }
+      pub taking_next : i < n → (left' i' : ℕ) → left' ≡ bit_xor left (1 * 2 ^ k % 18446744073709551616) → i' ≡ i + 1 → Taking masks n left' i'
+      taking_next l left' i' x z =
+          record {
+            within = omega arith;
+            below = without_below masks left n s.below k e h left' x;
+            same = one_left l
+                ∙ ap onward (node_is masks left n s.below k e)
+                ∙ ap₂ (λ m l. stuck (mask_into masks) (n - m) l) (sym z) (without_members masks left n s.below k e h left' x);
+          }
 
     pub taking_end : n ≤ i → members left ≡ stuck (mask_into masks) n (from 0 n)
     unfolding stuck
@@ -84,50 +86,45 @@ module _ (masks : List ℕ) (n : ℕ) where
 
 pub ruleset taking = (taking_start, taking_stuck, taking_shifts, taking_next, taking_end)
 
--- THE LOWEST NODE OF A MASK: what is behind the cursor decides
+-- THE LOWEST NODE OF A MASK
 
-pub record Looking (mask n i : ℕ) : Type 0 where
-  pub within : i ≤ n
-  pub same : first_of (members mask) ≡ first_of (members_from i mask)
+-- none of its nodes is below i
+none_below : (mask i : ℕ) → i ≤ width → ((k : ℕ) → k < i → has mask k ≡ false) → members mask ≡ members_from i mask
+none_below mask zero l h = members_all mask
+none_below mask (suc i) l h =
+    none_below mask i (omega arith) (λ k g. h k (omega arith))
+    ∙ members_past mask i (omega arith) (h i (omega arith))
+    ∙ ap (λ k. members_from k mask) (add-one i)
 
-module _ (mask n : ℕ) where
-  pub look_start : Looking mask n 0
-  look_start = record { within = omega arith; same = ap first_of (members_all mask) }
+module _ (mask : ℕ) where
+  pub lowest_none : mask ≡ 0 → None ≡ slice_get (members mask) 0
+  lowest_none e =
+      let p : 0 < 2 ^ 0 = pow_pos 0 in
+      sym (ap (λ l. slice_get l 0) (ap members e ∙ members_all 0 ∙ members_end 0 0 0 p (omega arith)))
 
-  module _ (i : ℕ) (s : Looking mask n i) where
-    pub look_found : n ≤ node_room → i < n → mask / 2 ^ i % 2 ≡ 1 → L.Node i ≡ as_found (first_of (members mask))
-    unfolding has bit_at
-    look_found h l e = sym (ap as_found (s.same ∙ ap first_of (members_here mask i (omega arith) (eq-eqb (mask / 2 ^ i % 2) 1 e))))
+  pub lowest_some : mask < 2 ^ 64 → (mask ≡ 0 → ⊥) → Some (trailing_zeros w64 mask) ≡ slice_get (members mask) 0
+  lowest_some h ne =
+      let low = has_lowest mask h ne in
+      sym (ap (λ l. slice_get l 0) (none_below mask (trailing_zeros w64 mask) (omega (arith, low.0)) low.2
+      ∙ members_here mask (trailing_zeros w64 mask) low.0 low.1))
 
-    pub look_next : n ≤ node_room → i < n → (mask / 2 ^ i % 2 ≡ 1 → ⊥) → (j : ℕ) → j ≡ i + 1 → Looking mask n j
-    unfolding has bit_at
-    look_next h l e j z =
-        record {
-          within = omega arith;
-          same = s.same ∙ ap first_of (members_past mask i (omega arith) (ne_eqb (mask / 2 ^ i % 2) 1 e)) ∙ ap (λ k. first_of (members_from k mask)) (sym z);
-        }
+pub ruleset looking = (lowest_none, lowest_some)
 
-    pub look_end : mask < 2 ^ n → n ≤ i → L.Nothing ≡ as_found (first_of (members mask))
-    look_end h l = sym (ap as_found (s.same ∙ ap first_of (members_end mask n i h l)))
+-- what it answered: the first of some nodes is one of them
+abbrev pub first_of : List ℕ → Option ℕ
+first_of [] = none
+first_of (k ∷ ks) = some k
 
-pub ruleset looking = (look_start, look_found, look_next, look_end)
+pub first_node : (ks : List ℕ) (r : Code.Option ℕ) → r ≡ slice_get ks 0 → first_of ks ≡ node_of r
+first_node [] r e = sym (ap node_of e)
+first_node (k ∷ ks) r e = sym (ap node_of e)
 
--- what it answered
-abbrev pub found_of : Found → Option ℕ
-found_of (L.Node k) = some k
-found_of L.Nothing = none
-
-pub found_is : (f : Option ℕ) (r : Found) → r ≡ as_found f → f ≡ found_of r
-found_is none r e = sym (ap found_of e)
-found_is (some k) r e = sym (ap found_of e)
-
--- the first of some nodes is one of them
-first_in : (ks : List ℕ) (k : ℕ) → first_of ks ≡ some k → In k ks
-first_in [] k e = absurd (let z : ◌≡◌ {A = ℕ} 0 1 = cc in omega arith)
+first_in : (ks : List ℕ) (k : ℕ) → Some k ≡ slice_get ks 0 → In k ks
+first_in [] k e = cc
 first_in (j ∷ ks) k e = let z : k ≡ j = cc in inl z
 
-pub found_below : (mask n : ℕ) → mask < 2 ^ n → (r : Found) (k : ℕ) → r ≡ as_found (first_of (members mask)) → r ≡ L.Node k → k < n
-found_below mask n h r k e t = has_below mask n k h (member_has mask k (first_in (members mask) k (found_is (first_of (members mask)) r e ∙ ap found_of t)))
+pub lowest_below : (mask n : ℕ) → mask < 2 ^ n → (k : ℕ) → Some k ≡ slice_get (members mask) 0 → k < n
+lowest_below mask n h k e = has_below mask n k h (member_has mask k (first_in (members mask) k e))
 
 -- WHERE A NODE STANDS ON THE TRAIL
 
@@ -141,7 +138,7 @@ module _ (p : ℕ) where
   unfolding up_to
   upto_past x l ne = rw (ne_eqb x p ne)
 
-  pub upto_in : (l : List ℕ) → is_in p l ≡ ltb (length (up_to p l)) (length l)
+  upto_in : (l : List ℕ) → is_in p l ≡ ltb (length (up_to p l)) (length l)
   unfolding up_to any
   upto_in [] = refl
   upto_in (x ∷ l) = go (ℕ_discrete x p) (upto_in l)
@@ -150,7 +147,7 @@ module _ (p : ℕ) where
       go (yes e) ih = rw (eq-eqb p x (sym e), upto_here x l e) (sym (lt-ltb 0 (length (x ∷ l)) (omega arith)))
       go (no ne) ih = rw (ne_eqb p x (λ e. ne (sym e)), upto_past x l ne) (ih ∙ sym (leb-suc-suc (suc (length (up_to p l))) (length l)))
 
-  pub upto_front : (l : List ℕ) → take (length (up_to p l)) l ≡ up_to p l
+  upto_front : (l : List ℕ) → take (length (up_to p l)) l ≡ up_to p l
   unfolding up_to
   upto_front [] = refl
   upto_front (x ∷ l) = go (eqb x p) (upto_front l)
@@ -159,111 +156,66 @@ module _ (p : ℕ) where
       go true ih = refl
       go false ih = ap (λ r. x ∷ r) ih
 
-pub record Seeking (trail : List ℕ) (at p i : ℕ) : Type 0 where
-  pub held : length trail ≡ node_room
-  pub within : i ≤ node_room
-  pub same : at + length (up_to p (drop at trail)) ≡ i + length (up_to p (drop i trail))
+-- the place that is searched for is the length of that part
+module _ (p : ℕ) (l : List ℕ) where
+  place_is : position (λ q. eqb q p) l ≡ cond (is_in p l) (Some (length (up_to p l))) None
+  unfolding up_to
+  place_is =
+      let e : length (up_to p l) ≡ position_or_len (λ q. eqb q p) l =
+      is_position_or_len (λ l. length (up_to p l)) (λ q. eqb q p) refl (λ x xs. more x (length (up_to p xs)) (up_to p xs) (eqb x p) refl) l in
+      ap (λ n. cond (ltb n (length l)) (Some n) None) (sym e) ∙ ap (λ b. cond b (Some (length (up_to p l))) None) (sym (upto_in p l))
+    where
+      more : (x n : ℕ) (ks : List ℕ) (b : Bool) → n ≡ length ks → length (cond b [] (x ∷ ks)) ≡ cond b 0 (1 + n)
+      more x n ks true e = refl
+      more x n ks false e = omega arith
 
-module _ (trail : List ℕ) (at p : ℕ) where
-  pub place_start : length trail ≡ node_room → at ≤ node_room → Seeking trail at p at
-  place_start h l = record { held = h; within = l; same = refl }
+-- THE CIRCLE IS TOLD
 
-  module _ (i : ℕ) (s : Seeking trail at p i) where
-    behind : i < node_room → drop i trail ≡ get_or trail i 0 ∷ drop (i + 1) trail
-    behind l = let h : length trail ≡ node_room = s.held in drop-cons trail i 0 (omega arith) ∙ ap (λ m. get_or trail i 0 ∷ drop m trail) (sym (add-one i))
+pub told_is : (p : ℕ) (part copied : List ℕ) → length part < node_room → copied ≡ part
+    → ◌≡◌ {A = Circle} (record { len = length part + 1; nodes = p ∷ (copied ++ drop (length part + 1 - 1) (replicate (node_room - 1) 0)) })
+    (as_circle (p ∷ part))
+told_is p part copied h e =
+    let z : node_room - 1 - (length part + 1 - 1) ≡ node_room - suc (length part) = omega arith in
+    ap₂ (λ k r. record { len = k; nodes = p ∷ r }) (add-one (length part))
+    (ap₂ (λ c r. c ++ r) e (drop-replicate (length part + 1 - 1) (node_room - 1) 0 ∙ ap (λ m. replicate m 0) z))
 
-    pub place_found : i < node_room → get_or trail i 0 ≡ p → i ≡ at + length (up_to p (drop at trail))
-    place_found l e =
-        let z : i + 0 ≡ i = omega arith in
-        sym (s.same ∙ ap (λ t. i + length t) (ap (up_to p) (behind l) ∙ upto_here p (get_or trail i 0) (drop (i + 1) trail) e) ∙ z)
+-- AND WHERE IT STANDS ON THE TRAIL
 
-    pub place_next : i < node_room → (get_or trail i 0 ≡ p → ⊥) → (j : ℕ) → j ≡ i + 1 → Seeking trail at p j
-    place_next l ne j z =
-        let y : i + suc (length (up_to p (drop (i + 1) trail))) ≡ i + 1 + length (up_to p (drop (i + 1) trail)) = omega arith in
-        record {
-          held = s.held;
-          within = omega arith;
-          same = s.same ∙ ap (λ t. i + length t) (ap (up_to p) (behind l) ∙ upto_past p (get_or trail i 0) (drop (i + 1) trail) ne) ∙ y
-              ∙ ap (λ m. m + length (up_to p (drop m trail))) (sym z);
-        }
+module _ (p : ℕ) (trail : List ℕ) where
+  -- the answer for a node that stands there, or not
+  abbrev pub came : Code.Option Circle
+  came = cond (is_in p trail) (Some (as_circle (p ∷ up_to p trail))) None
 
-    pub place_end : node_room ≤ i → i ≡ at + length (up_to p (drop at trail))
-    unfolding up_to
-    place_end l =
-        let h : length trail ≡ node_room = s.held in
-        let g : length trail ≤ i = omega arith in
-        let z : i + 0 ≡ i = omega arith in
-        sym (s.same ∙ ap (λ t. i + length (up_to p t)) (drop_of_length-le trail g) ∙ z)
+  pub came_none : None ≡ position (λ q. eqb q p) trail → None ≡ came
+  came_none e = go (is_in p trail) (e ∙ place_is p trail)
+    where
+      go : (b : Bool) → None ≡ cond b (Some (length (up_to p trail))) None → None ≡ cond b (Some (as_circle (p ∷ up_to p trail))) None
+      go true f = cc
+      go false f = refl
 
-pub ruleset placing = (place_start, place_found, place_next, place_end)
+  pub came_some : (i : ℕ) → Some i ≡ position (λ q. eqb q p) trail → (c : Circle) → c ≡ as_circle (p ∷ take i trail) → Some c ≡ came
+  came_some i e c q = go (is_in p trail) (e ∙ place_is p trail)
+    where
+      go : (b : Bool) → Some i ≡ cond b (Some (length (up_to p trail))) None → Some c ≡ cond b (Some (as_circle (p ∷ up_to p trail))) None
+      go true f =
+          let z : i ≡ length (up_to p trail) = cc in
+          ap Some (q ∙ ap (λ t. as_circle (p ∷ t)) (ap (λ n. take n trail) z ∙ upto_front p trail))
+      go false f = cc
 
--- THE CIRCLE IS TOLD: those of the trail up to the cursor stand behind the first
+pub ruleset coming = (came_none, came_some)
 
-pub record Copying (trail : List ℕ) (at to p : ℕ) (nodes : List ℕ) (len i : ℕ) : Type 0 where
-  pub held : length trail ≡ node_room
-  pub behind : at ≤ i
-  pub within : i ≤ to
-  pub many : len ≡ i - at + 1
-  pub same : nodes ≡ (p ∷ take (i - at) (drop at trail)) ++ replicate (node_room - len) 0
+-- what it tells
+pub came_there : (p : ℕ) (trail : List ℕ) (c : Circle) → Some c ≡ came p trail → (is_in p trail ≡ true) × (c ≡ as_circle (p ∷ up_to p trail))
+came_there p trail c e = go (is_in p trail) refl e
+  where
+    go : (b : Bool) → is_in p trail ≡ b → Some c ≡ cond b (Some (as_circle (p ∷ up_to p trail))) None
+        → (is_in p trail ≡ true) × (c ≡ as_circle (p ∷ up_to p trail))
+    go true t f = (t, cc)
+    go false t f = cc
 
-module _ (trail : List ℕ) (at to p : ℕ) where
-  pub copy_start : length trail ≡ node_room → at ≤ to → Copying trail at to p (set (replicate node_room 0) 0 p) 1 at
-  copy_start h l =
-      let z : at - at ≡ 0 = omega arith in
-      record {
-        held = h;
-        behind = omega arith;
-        within = l;
-        many = omega arith;
-        same =
-            ap (λ m. (p ∷ take m (drop at trail)) ++ replicate (node_room - 1) 0) (sym z);
-      }
-
-  module _ (nodes : List ℕ) (len i : ℕ) (s : Copying trail at to p nodes len i) (small : to < node_room) where
-    -- so many stand there
-    long : length (take (i - at) (drop at trail)) ≡ i - at
-    long =
-        let h : length trail ≡ node_room = s.held in
-        let b : i ≤ to = s.within in
-        length-take-le (i - at) (drop at trail) (let d : length (drop at trail) ≡ length trail - at = length-drop at trail in omega arith)
-
-    pub copy_room : i < to → len < node_room
-    copy_room l = omega (arith, s.many, s.behind)
-
-    pub copy_next : i < to → (nodes' : List ℕ) (len' i' : ℕ) → nodes' ≡ set nodes len (get_or trail i 0) → len' ≡ len + 1 → i' ≡ i + 1
-        → Copying trail at to p nodes' len' i'
-    copy_next l nodes' len' i' e y z =
-        let h : length trail ≡ node_room = s.held in
-        let b : at ≤ i = s.behind in
-        let m : len ≡ i - at + 1 = s.many in
-        let d : length (drop at trail) ≡ length trail - at = length-drop at trail in
-        let g : length (take (i - at) (drop at trail)) ≡ i - at = long in
-        let x : node_room - len ≡ suc (node_room - len') = omega arith in
-        let w : i' - at ≡ suc (i - at) = omega arith in
-        let v : at + (i - at) ≡ i = omega arith in
-        let front : List ℕ = p ∷ take (i - at) (drop at trail) in
-        record {
-          held = h;
-          behind = omega arith;
-          within = omega arith;
-          many = omega arith;
-          same = e
-              ∙ ap (λ t. set t len (get_or trail i 0)) (s.same ∙ ap (λ m. front ++ replicate m 0) x)
-              ∙ set_at front 0 (replicate (node_room - len') 0) (get_or trail i 0) len (omega arith)
-              ∙ sym (append_snoc front (get_or trail i 0) (replicate (node_room - len') 0))
-              ∙ ap (λ t. (p ∷ t) ++ replicate (node_room - len') 0)
-              (ap (λ c. take (i - at) (drop at trail) ++ (c ∷ [])) (ap (λ k. get_or trail k 0) (sym v) ∙ sym (get_or-drop at trail (i - at) 0))
-              ∙ sym (take-suc (drop at trail) (i - at) 0 (omega arith)) ∙ ap (λ k. take k (drop at trail)) (sym w));
-        }
-
-    pub copy_end : to ≤ i → ◌≡◌ {A = Circle} (record { len = len; nodes = nodes }) (as_circle (p ∷ take (to - at) (drop at trail)))
-    copy_end l =
-        let b : i ≤ to = s.within in
-        let m : len ≡ i - at + 1 = s.many in
-        let g : length (take (i - at) (drop at trail)) ≡ i - at = long in
-        let z : i ≡ to = omega arith in
-        let x : len ≡ length (p ∷ take (i - at) (drop at trail)) = omega arith in
-        ap₂ (λ k t. record { len = k; nodes = t }) x (s.same ∙ ap (λ k. (p ∷ take (i - at) (drop at trail)) ++ replicate (node_room - k) 0) x)
-        ∙ ap (λ k. as_circle (p ∷ take (k - at) (drop at trail))) z
-
-pub ruleset copying = (copy_start, copy_room, copy_next, copy_end)
+pub came_nowhere : (p : ℕ) (trail : List ℕ) → None ≡ came p trail → is_in p trail ≡ false
+came_nowhere p trail e = go (is_in p trail) refl e
+  where
+    go : (b : Bool) → is_in p trail ≡ b → None ≡ cond b (Some (as_circle (p ∷ up_to p trail))) None → is_in p trail ≡ false
+    go true t f = cc
+    go false t f = t

@@ -36,7 +36,8 @@ use Rattle.graph_tests.specs.declared.Tests.{Tests}
 use Rattle.graph_tests.specs.Table.{rows_for, as_tests}
 use Rattle.graph_tests.specs.Answers.{rows_of, Stands, Standing}
 use Rattle.graph_tests.proofs.Callers.{standing_for, rows_stand, tests_taken}
-use Rattle.graph_order.specs.declared.Sorting.{Sorting}
+use Rattle.std.specs.Prelude as Code
+use Rattle.std.specs.Prelude.{Some, None}
 use Rattle.graph_order.specs.Answers.{as_sorting}
 use Rattle.graph_order.proofs.Callers.{sort_none, sort_some}
 use Rattle.graph_edges.specs.Edges.{trigger_nodes, word_nodes, home_nodes, test_nodes, tests_into, line_from}
@@ -220,13 +221,13 @@ module _ (sh : Sheet) (well : Well sh) (table : Tests) (ws : List ℕ) (tests_ar
       (rows_stand sh ws rest words_are) (λ t i. (tests_in sh well t i).leaves) k
 
   -- so the answer is the order of the sheet
-  pub words_order : (rest : List ℕ) → ws ≡ all_words sh.rules ++ rest → (n : ℕ) → n ≡ length (statuses sh.heads) → (r : Sorting)
+  pub words_order : (rest : List ℕ) → ws ≡ all_words sh.rules ++ rest → (n : ℕ) → n ≡ length (statuses sh.heads) → (r : Code.Option (List ℕ))
       → r ≡ as_sorting (order_for (n * 2) (tests_into ws (take table.count table.rows))) → r ≡ as_sorting (testing_order sh)
   unfolding testing_order nodes
   words_order rest words_are n few r e = e ∙ ap₂ (λ m into. as_sorting (order_for (m * 2) into)) few (fun_ext (words_into rest words_are))
 
   -- the same of words that fill the array for them
-  pub order_is : ws ≡ padded word_room 0 (all_words sh.rules) → (n : ℕ) → n ≡ length (statuses sh.heads) → (r : Sorting)
+  pub order_is : ws ≡ padded word_room 0 (all_words sh.rules) → (n : ℕ) → n ≡ length (statuses sh.heads) → (r : Code.Option (List ℕ))
       → r ≡ as_sorting (order_for (n * 2) (tests_into ws (take table.count table.rows))) → r ≡ as_sorting (testing_order sh)
   unfolding padded
   order_is words_are = words_order (replicate (word_room - length (all_words sh.rules)) 0) words_are
@@ -263,11 +264,11 @@ module _ (sh : Sheet) (well : Well sh) (table : Tests) (ws : List ℕ) (tests_ar
   line_is words_are = words_line (replicate (word_room - length (all_words sh.rules)) 0) words_are
 
 -- what the answer says of the sheet
-module _ (sh : Sheet) (r : Sorting) (is : r ≡ as_sorting (testing_order sh)) where
-  pub order_none : r.found ≡ false → testing_order sh ≡ none
+module _ (sh : Sheet) (r : Code.Option (List ℕ)) (is : r ≡ as_sorting (testing_order sh)) where
+  pub order_none : r ≡ None → testing_order sh ≡ none
   unfolding testing_order
   order_none = sort_none (nodes sh.heads) (predecessors (tests sh)) r is
 
-  pub order_some : r.found ≡ true → testing_order sh ≡ some (take (nodes sh.heads) r.order)
+  pub order_some : (order : List ℕ) → r ≡ Some order → testing_order sh ≡ some (take (nodes sh.heads) order)
   unfolding testing_order
   order_some = sort_some (nodes sh.heads) (predecessors (tests sh)) r is

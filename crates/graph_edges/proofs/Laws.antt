@@ -1,5 +1,5 @@
 -- What the functions add, in return form: the premises are what is known at a place, the conclusion is what is asked there.
-use Prim.Native.Nat.{ℕ, zero, suc, ◌+◌, ◌-◌, ◌*◌, ◌/◌, ◌%◌, ◌^◌, ◌≤◌, ◌<◌}
+use Prim.Native.Nat.{ℕ, zero, suc, ◌+◌, ◌-◌, ◌*◌, ◌/◌, ◌%◌, ◌≤◌, ◌<◌}
 use mathlib.Core.Path.{◌≡◌, refl, sym, ◌∙◌, ap, ap₂, subst}
 use mathlib.Core.Bool.{Bool, true, false, cond, ◌&&◌, ◌||◌, or-false, or_assoc}
 use mathlib.Core.List.{List, [], ◌∷◌, ◌++◌, append-nil}
@@ -7,18 +7,18 @@ use native.Mathlib.Omega.{arith}
 use native.Mathlib.Numerals.{add-one}
 use native.Mathlib.Decide.{ℕ_discrete}
 use lib.Dec.{eqb, ltb}
-use lib.ListN.{length, get_or, take, drop, set, replicate, length-set, length-drop, drop_of_length-le}
-use lib.Seq.{take_all, take-nil, take-suc, drop-cons, get_or-drop, get_or-set_same, get_or-set_other}
+use lib.ListN.{length, get_or, take, drop, set, replicate, length-set, drop_of_length-le}
+use lib.Seq.{take_all, take-suc, drop-cons, get_or-set_same, get_or-set_other}
 use borrow.Author.Tests.{eq-eqb, ne_eqb, lt-ltb, le-ltb, le-leb, lt-leb}
+use Rattle.std.specs.Prelude as Code
 use Rattle.meaning.specs.Text.{any, is_in, keep, joined}
 use Rattle.meaning.specs.Graph.{Into, edge, order_for}
 use Rattle.meaning.specs.Circle.{circle_for}
 use Rattle.meaning.specs.Tests.{up, down, both}
 use Rattle.meaning.specs.Limits.{status_limit}
 use Rattle.theory.specs.Lists.Members.{joined_both, joined_one, keep_append}
-use Rattle.limits.specs.Sizes.{node_room, test_room}
-use Rattle.graph_order.specs.declared.Sorting.{Sorting}
-use Rattle.graph_order.specs.Masks.{bit_at, has, mask_into, with_bit, width}
+use Rattle.limits.specs.Sizes.{node_room}
+use Rattle.graph_order.specs.Masks.{has, mask_into, with_bit, width}
 use Rattle.graph_order.specs.Answers.{as_sorting}
 use Rattle.graph_order.proofs.Callers.{has_with, edges_none, sort_same}
 use Rattle.graph_circle.specs.declared.Circle.{Circle}
@@ -174,73 +174,46 @@ pub ruleset covering = (home_none, home_some)
 
 -- THE WORDS OF A CONDITION
 
--- the nodes of the words at from .. i
-abbrev pub read : List ℕ → ℕ → ℕ → List ℕ
-read words from i = joined word_nodes (take (i - from) (drop from words))
+-- the edges of the first i words stand in the masks
+pub record Reading (words : List ℕ) (k : ℕ) (was is : List ℕ) (i : ℕ) : Type 0 where
+  pub added : Added (toward k (joined word_nodes (take i words))) was is
 
-pub record Reading (words : List ℕ) (from to k : ℕ) (was is : List ℕ) (i : ℕ) : Type 0 where
-  pub behind : from ≤ i
-  pub within : i - from ≤ to - from
-  pub added : Added (toward k (read words from i)) was is
-
-module _ (words : List ℕ) (from to k : ℕ) (was : List ℕ) where
-  pub reading_start : length was ≡ node_room → Reading words from to k was was from
+module _ (words : List ℕ) (k : ℕ) (was : List ℕ) where
+  pub reading_start : length was ≡ node_room → Reading words k was was 0
   unfolding joined
-  reading_start l =
-      let z : from - from ≡ 0 = omega arith in
-      record {
-        behind = omega arith;
-        within = omega arith;
-        added = none_toward k (read words from from) was l (ap (λ n. joined word_nodes (take n (drop from words))) z);
-      }
+  reading_start l = record { added = none_toward k [] was l refl }
 
-  module _ (is : List ℕ) (i : ℕ) (s : Reading words from to k was is i) where
-    pub reading_out : i < to → length words ≤ i → Added (toward k (read words from to)) was is
-    reading_out h l =
-        let b : from ≤ i = s.behind in
-        let d : length (drop from words) ≡ length words - from = length-drop from words in
-        as_toward k (read words from i) (read words from to) was is s.added
-        (ap (joined word_nodes) (take_all (i - from) (drop from words) (omega arith) ∙ sym (take_all (to - from) (drop from words) (omega arith))))
+  module _ (is : List ℕ) (i : ℕ) (s : Reading words k was is i) where
+    pub reading_long : length is ≡ node_room
+    reading_long = s.added.long
 
-    pub reading_end : to ≤ i → Added (toward k (read words from to)) was is
-    reading_end h =
-        let b : i - from ≤ to - from = s.within in
-        let z : i - from ≡ to - from = omega arith in
-        as_toward k (read words from i) (read words from to) was is s.added (ap (λ n. joined word_nodes (take n (drop from words))) z)
+    pub reading_end : length words ≤ i → Added (toward k (joined word_nodes words)) was is
+    reading_end h = as_toward k (joined word_nodes (take i words)) (joined word_nodes words) was is s.added (ap (joined word_nodes) (take_all i words h))
 
-    pub reading_next : (after : List ℕ) → i < to → i < length words → Added (toward k (word_nodes (get_or words i 0))) is after → (j : ℕ) → j ≡ i + 1
-        → Reading words from to k was after j
-    reading_next after h l a j e =
-        let b : from ≤ i = s.behind in
-        let d : length (drop from words) ≡ length words - from = length-drop from words in
-        let z : j - from ≡ suc (i - from) = omega arith in
-        let y : from + (i - from) ≡ i = omega arith in
-        let more : take (j - from) (drop from words) ≡ take (i - from) (drop from words) ++ (get_or words i 0 ∷ []) =
-        ap (λ n. take n (drop from words)) z ∙ take-suc (drop from words) (i - from) 0 (omega arith)
-        ∙ ap (λ w. take (i - from) (drop from words) ++ (w ∷ [])) (get_or-drop from words (i - from) 0 ∙ ap (λ n. get_or words n 0) y) in
-        record {
-          behind = omega arith;
-          within = omega arith;
-          added = both_toward k (read words from i) (word_nodes (get_or words i 0)) was is after s.added a (read words from j)
-              (ap (joined word_nodes) more ∙ joined_both word_nodes (take (i - from) (drop from words)) (get_or words i 0 ∷ [])
-              ∙ ap (λ l. read words from i ++ l) (joined_one word_nodes (get_or words i 0)));
-        }
+    pub reading_next : (w : ℕ) → w ≡ get_or words i 0 → (after : List ℕ) → i < length words → Added (toward k (word_nodes w)) is after
+        → Reading words k was after (i + 1)
+    reading_next w e after h a = record {
+      added =
+          both_toward k (joined word_nodes (take i words)) (word_nodes w) was is after s.added a (joined word_nodes (take (i + 1) words))
+          (ap (joined word_nodes) (ap (λ m. take m words) (add-one i) ∙ take-suc words i 0 h)
+          ∙ joined_both word_nodes (take i words) (get_or words i 0 ∷ [])
+          ∙ ap (λ l. joined word_nodes (take i words) ++ l) (joined_one word_nodes (get_or words i 0) ∙ ap word_nodes (sym e)));
+    }
 
-pub ruleset reading = (reading_start, reading_out, reading_next, reading_end)
+pub ruleset reading = (reading_start, reading_long, reading_end, reading_next)
 
 -- A TEST
 
 pub test_added : (words : List ℕ) (t : Test) (was : List ℕ) (k : ℕ) → k ≡ t.node → (one two is : List ℕ) → Added (toward k (trigger_nodes t.trigger)) was one
-    → (a b : ℕ) → a ≡ t.from → b ≡ t.to → Added (toward k (read words a b)) one two → Added (toward k (home_nodes t.home)) two is
-    → Added (toward t.node (test_nodes words t)) was is
+    → (a b : ℕ) → a ≡ t.from → b ≡ t.to → (ws : List ℕ) → ws ≡ take (b - a) (drop a words) → Added (toward k (joined word_nodes ws)) one two
+    → Added (toward k (home_nodes t.home)) two is → Added (toward t.node (test_nodes words t)) was is
 unfolding test_nodes
-test_added words t was k e one two is g a b f h w o =
+test_added words t was k e one two is g a b f h ws part w o =
     subst (λ n. Added (toward n (test_nodes words t)) was is) e
-    (both_toward k (trigger_nodes t.trigger ++ read words a b) (home_nodes t.home) was two is
-    (both_toward k (trigger_nodes t.trigger) (read words a b) was one two g w (trigger_nodes t.trigger ++ read words a b) refl) o (test_nodes words t)
-    (sym (ap (λ l. trigger_nodes t.trigger ++ l ++ home_nodes t.home) (ap₂ (read words) f h))))
-
-pub ruleset joining = (test_added)
+    (both_toward k (trigger_nodes t.trigger ++ joined word_nodes ws) (home_nodes t.home) was two is
+    (both_toward k (trigger_nodes t.trigger) (joined word_nodes ws) was one two g w (trigger_nodes t.trigger ++ joined word_nodes ws) refl) o
+    (test_nodes words t)
+    (sym (ap (λ l. trigger_nodes t.trigger ++ joined word_nodes l ++ home_nodes t.home) (part ∙ ap₂ (λ m n. take (n - m) (drop m words)) f h))))
 
 -- ALL TESTS
 
@@ -257,49 +230,36 @@ module _ {A B : Type 0} (f : A → List B) (q : A → Bool) where
       go true = append-nil (f x)
       go false = refl
 
-pub record Adding (words : List ℕ) (rows : List Test) (count : ℕ) (was is : List ℕ) (i : ℕ) : Type 0 where
-  pub held : length rows ≡ test_room
-  pub within : i ≤ count
-  pub added : Added (tests_into words (take i rows)) was is
+-- the edges of the first i tests stand in the masks
+pub record Adding (words : List ℕ) (rows : List Test) (is : List ℕ) (i : ℕ) : Type 0 where
+  pub added : Added (tests_into words (take i rows)) (replicate node_room 0) is
 
-module _ (words : List ℕ) (rows : List Test) (count : ℕ) (was : List ℕ) where
-  pub adding_start : length rows ≡ test_room → length was ≡ node_room → Adding words rows count was was 0
+module _ (words : List ℕ) (rows : List Test) where
+  pub adding_start : Adding words rows (replicate node_room 0) 0
   unfolding tests_into rows_for joined keep
-  adding_start h l = record { held = h; within = omega arith; added = added_none (tests_into words []) was l (λ k g. refl) }
+  adding_start = record { added = added_none (tests_into words []) (replicate node_room 0) refl (λ k g. refl) }
 
-  module _ (is : List ℕ) (i : ℕ) (s : Adding words rows count was is i) where
+  module _ (is : List ℕ) (i : ℕ) (s : Adding words rows is i) where
     pub adding_long : length is ≡ node_room
     adding_long = s.added.long
 
-    pub adding_out : i < count → test_room ≤ i → Added (tests_into words (take count rows)) was is
-    adding_out h l =
-        let n : length rows ≡ test_room = s.held in
-        subst (λ ts. Added (tests_into words ts) was is) (take_all i rows (omega arith) ∙ sym (take_all count rows (omega arith))) s.added
+    pub adding_end : length rows ≤ i → Added (tests_into words rows) (replicate node_room 0) is
+    adding_end h = subst (λ ts. Added (tests_into words ts) (replicate node_room 0) is) (take_all i rows h) s.added
 
-    pub adding_end : count ≤ i → Added (tests_into words (take count rows)) was is
-    adding_end h =
-        let n : i ≤ count = s.within in
-        let z : i ≡ count = omega arith in
-        subst (λ m. Added (tests_into words (take m rows)) was is) z s.added
-
-    pub adding_next : (d : Test) (after : List ℕ) → i < count → i < test_room
-        → Added (toward (get_or rows i d).node (test_nodes words (get_or rows i d))) is after
-        → (j : ℕ) → j ≡ i + 1 → Adding words rows count was after j
+    pub adding_next : (d : Test) (after : List ℕ) → i < length rows
+        → Added (toward (get_or rows i d).node (test_nodes words (get_or rows i d))) is after → Adding words rows after (i + 1)
     unfolding tests_into rows_for toward
-    adding_next d after h l a j e =
-        let n : length rows ≡ test_room = s.held in
-        let more : take j rows ≡ take i rows ++ (get_or rows i d ∷ []) = ap (λ m. take m rows) (e ∙ add-one i) ∙ take-suc rows i d (omega arith) in
+    adding_next d after h a =
+        let more : take (i + 1) rows ≡ take i rows ++ (get_or rows i d ∷ []) = ap (λ m. take m rows) (add-one i) ∙ take-suc rows i d h in
         record {
-          held = n;
-          within = omega arith;
-          added = added_then (tests_into words (take j rows)) was is after (tests_into words (take i rows))
+          added = added_then (tests_into words (take (i + 1) rows)) (replicate node_room 0) is after (tests_into words (take i rows))
               (toward (get_or rows i d).node (test_nodes words (get_or rows i d))) s.added a
               (λ k g. ap (λ ts. tests_into words ts k) more
               ∙ keep_both (test_nodes words) (λ t. eqb t.node k) (take i rows) (get_or rows i d ∷ [])
               ∙ ap (λ l. tests_into words (take i rows) k ++ l) (keep_one (test_nodes words) (λ t. eqb t.node k) (get_or rows i d)));
         }
 
-pub ruleset adding = (adding_start, adding_long, adding_out, adding_next, adding_end)
+pub ruleset adding = (adding_start, adding_long, adding_end, adding_next)
 
 -- THE ORDER, AND THE CIRCLE: the masks have the graph's edges, and only these decide
 
@@ -309,84 +269,52 @@ module _ (words : List ℕ) (rows : List Test) (statuses : ℕ) (is : List ℕ) 
   unfolding edge
   alike p k c d = a.edges p k (omega arith) (omega arith) ∙ ap (λ t. t || is_in p (tests_into words rows k)) (edges_none node_room p k)
 
-  pub order_of_lem : (r : Sorting) → r ≡ as_sorting (order_for (statuses * 2) (mask_into is))
+  pub order_of_lem : (r : Code.Option (List ℕ)) → r ≡ as_sorting (order_for (statuses * 2) (mask_into is))
       → r ≡ as_sorting (order_for (statuses * 2) (tests_into words rows))
   order_of_lem r = sort_same is (statuses * 2) (tests_into words rows) r (omega arith) alike
 
   pub circle_of : (r : Circle) → r ≡ as_circle (circle_for (statuses * 2) (mask_into is)) → r ≡ as_circle (circle_for (statuses * 2) (tests_into words rows))
   circle_of r = find_same is (statuses * 2) (tests_into words rows) r (omega arith) alike
 
-pub ruleset ordering = (order_of_lem)
-
-pub ruleset circling = (circle_of)
-
 -- THE LINE OF AN EDGE
 
 -- a test alone in a graph
 pub gives_is : (words : List ℕ) (t : Test) (p k : ℕ) (is : List ℕ) → p < node_room → k < node_room
-    → Added (toward t.node (test_nodes words t)) (replicate node_room 0) is
-    → eqb (get_or is k 0 / 2 ^ p % 2) 1 ≡ eqb t.node k && is_in p (test_nodes words t)
-unfolding has bit_at toward any
+    → Added (tests_into words (t ∷ [])) (replicate node_room 0) is → has (get_or is k 0) p ≡ eqb t.node k && is_in p (test_nodes words t)
+unfolding tests_into rows_for any
 gives_is words t p k is g h a =
-    a.edges p k g h ∙ ap (λ b. b || is_in p (toward t.node (test_nodes words t) k)) (edges_none node_room p k) ∙ go (eqb t.node k)
+    a.edges p k g h ∙ ap (λ b. b || is_in p (tests_into words (t ∷ []) k)) (edges_none node_room p k)
+    ∙ ap (is_in p) (keep_one (test_nodes words) (λ t. eqb t.node k) t) ∙ go (eqb t.node k)
   where
     go : (b : Bool) → is_in p (cond b (test_nodes words t) []) ≡ b && is_in p (test_nodes words t)
     go true = refl
     go false = refl
 
-pub ruleset giving = (gives_is)
-
 -- the rows from the cursor on decide
-pub record Lining (words : List ℕ) (rows : List Test) (count p k i : ℕ) : Type 0 where
-  pub held : length rows ≡ test_room
-  pub within : i ≤ count
-  pub same : line_from words (take count rows) p k ≡ line_from words (take (count - i) (drop i rows)) p k
+abbrev pub Lining : List ℕ → List Test → ℕ → ℕ → ℕ → Type 0
+Lining words rows p k i = line_from words rows p k ≡ line_from words (drop i rows) p k
 
-module _ (words : List ℕ) (rows : List Test) (count p k : ℕ) where
-  pub lining_start : length rows ≡ test_room → Lining words rows count p k 0
-  lining_start h =
-      let z : count ≡ count - 0 = omega arith in
-      record { held = h; within = omega arith; same = ap (λ m. line_from words (take m rows) p k) z }
+module _ (words : List ℕ) (rows : List Test) (p k i : ℕ) (s : Lining words rows p k i) where
+  pub lining_end : length rows ≤ i → 0 ≡ line_from words rows p k
+  unfolding line_from
+  lining_end h = sym (s ∙ ap (λ ts. line_from words ts p k) (drop_of_length-le rows h))
 
-  module _ (i : ℕ) (s : Lining words rows count p k i) where
-    pub lining_out : i < count → test_room ≤ i → 0 ≡ line_from words (take count rows) p k
+  module _ (d : Test) (h : i < length rows) where
+    -- whether the row at the cursor gives the edge, and its line or what those behind it give
+    abbrev gives : Bool
+    gives = eqb (get_or rows i d).node k && is_in p (test_nodes words (get_or rows i d))
+
+    abbrev line_by : Bool → ℕ
+    line_by b = cond b (get_or rows i d).line (line_from words (drop (i + 1) rows) p k)
+
+    one_more : line_from words rows p k ≡ line_by gives
     unfolding line_from
-    lining_out h l =
-        let n : length rows ≡ test_room = s.held in
-        let z : length rows ≤ i = omega arith in
-        sym (s.same ∙ ap (λ ts. line_from words ts p k) (ap (take (count - i)) (drop_of_length-le rows z) ∙ take-nil (count - i)))
+    one_more = s ∙ ap (λ ts. line_from words ts p k) (drop-cons rows i d h ∙ ap (λ m. get_or rows i d ∷ drop m rows) (sym (add-one i)))
 
-    pub lining_end : count ≤ i → 0 ≡ line_from words (take count rows) p k
-    unfolding line_from
-    lining_end h =
-        let z : count - i ≡ 0 = omega arith in
-        sym (s.same ∙ ap (λ m. line_from words (take m (drop i rows)) p k) z)
+    pub lining_found : (b : Bool) → b ≡ gives → b ≡ true → (get_or rows i d).line ≡ line_from words rows p k
+    lining_found b e t = sym (one_more ∙ ap line_by (sym e ∙ t))
 
-    module _ (d : Test) (h : i < count) (l : i < test_room) where
-      -- the row at the cursor, whether it gives the edge, and its line or what those behind it give
-      abbrev gives : Bool
-      gives = eqb (get_or rows i d).node k && is_in p (test_nodes words (get_or rows i d))
+    pub lining_next : (b : Bool) → b ≡ gives → b ≡ false → Lining words rows p k (i + 1)
+    lining_next b e t = one_more ∙ ap line_by (sym e ∙ t)
 
-      abbrev line_by : Bool → ℕ
-      line_by b = cond b (get_or rows i d).line (line_from words (take (count - (i + 1)) (drop (i + 1) rows)) p k)
-
-      one_more : line_from words (take count rows) p k ≡ line_by gives
-      unfolding line_from
-      one_more =
-          let n : length rows ≡ test_room = s.held in
-          let z : count - i ≡ suc (count - (i + 1)) = omega arith in
-          s.same ∙ ap₂ (λ m ts. line_from words (take m ts) p k) z (drop-cons rows i d (omega arith)
-          ∙ ap (λ m. get_or rows i d ∷ drop m rows) (sym (add-one i)))
-
-      pub lining_found : (b : Bool) → b ≡ gives → b ≡ true → (r : ℕ) → r ≡ (get_or rows i d).line → r ≡ line_from words (take count rows) p k
-      lining_found b e t r g = g ∙ sym (one_more ∙ ap line_by (sym e ∙ t))
-
-      pub lining_next : (b : Bool) → b ≡ gives → b ≡ false → (j : ℕ) → j ≡ i + 1 → Lining words rows count p k j
-      lining_next b e t j z =
-          record {
-            held = s.held;
-            within = omega arith;
-            same = one_more ∙ ap line_by (sym e ∙ t) ∙ ap (λ m. line_from words (take (count - m) (drop m rows)) p k) (sym z);
-          }
-
-pub ruleset lining = (lining_start, lining_out, lining_found, lining_next, lining_end)
+pub ruleset lining = (lining_end, lining_found, lining_next)

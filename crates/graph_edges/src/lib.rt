@@ -2,7 +2,7 @@
 // The graph is a mask for each node: bit p of mask k is the edge from node p to node k.
 #![tactic(auto)]
 
-ghost use Rattle.std.specs.Prelude.{◌≡◌, cond, ◌&&◌, [], ◌∷◌, ◌-◌, ◌*◌, ◌≤◌, ◌<◌, eqb, length, take, drop};
+ghost use Rattle.std.specs.Prelude.{◌≡◌, cond, ◌&&◌, [], ◌∷◌, ◌-◌, ◌*◌, ◌≤◌, ◌<◌, eqb, length, replicate, take, drop};
 ghost use Rattle.meaning.specs.Text.{is_in, joined};
 ghost use Rattle.meaning.specs.Graph.{order_for};
 ghost use Rattle.meaning.specs.Circle.{circle_for};
@@ -15,7 +15,6 @@ ghost use Rattle.graph_edges.specs.Edges.{trigger_nodes, word_nodes, home_nodes,
 ghost use Rattle.graph_edges.specs.Added.{Added, toward};
 
 use graph_circle::Circle;
-use graph_order::Sorting;
 use graph_tests::{Test, Tests};
 use sheet_tables::Trigger;
 
@@ -77,18 +76,22 @@ fn add_word(masks: &mut [u64; limits::NODES], w: u64, k: usize)
     link_both(masks, (w / 8 % 32) as usize, k);
 }
 
-// The edges of a condition, whose words stand at from .. to.
-fn add_words(masks: &mut [u64; limits::NODES], words: &[u64], from: usize, to: usize, k: usize)
-    requires { length masks.old ≡ node_room }
-    ensures { Added (toward k (joined word_nodes (take (to - from) (drop from words.now)))) masks.old masks.new }
+// The words that stand at from .. to.
+fn words_at(words: &[u64], from: usize, to: usize) -> &[u64]
+    ensures { result.now ≡ take (to - from) (drop from words.now) }
 {
-    let mut i = from;
-    while i < to {
-        if words.len() <= i {
-            return;
-        }
-        add_word(masks, words[i], k);
-        i += 1;
+    let rest = words.get(from..).unwrap_or(&[]);
+    rest.get(..to.saturating_sub(from)).unwrap_or(rest)
+}
+
+// The edges of a condition.
+#[tactic(auto, using(crate::proofs::Laws::reading))]
+fn add_words(masks: &mut [u64; limits::NODES], words: &[u64], k: usize)
+    requires { length masks.old ≡ node_room }
+    ensures { Added (toward k (joined word_nodes words.now)) masks.old masks.new }
+{
+    for w in words {
+        add_word(masks, *w, k);
     }
 }
 
@@ -108,82 +111,64 @@ fn add_test(masks: &mut [u64; limits::NODES], words: &[u64], t: Test)
     requires { length masks.old ≡ node_room }
     ensures { Added (toward t.node (test_nodes words.now t)) masks.old masks.new }
 {
-    let k = places::of_byte(t.node);
-    let trigger = t.trigger;
-    add_trigger(masks, trigger, k);
-    add_words(
-        masks,
-        words,
-        places::of_pair(t.from),
-        places::of_pair(t.to),
-        k,
-    );
+    let k = usize::from(t.node);
+    let condition = words_at(words, usize::from(t.from), usize::from(t.to));
+    add_trigger(masks, t.trigger, k);
+    add_words(masks, condition, k);
     add_home(masks, t.home, k);
 }
 
-// The edges of all tests.
-fn add_tests(masks: &mut [u64; limits::NODES], words: &[u64], tests: Tests)
-    requires { length masks.old ≡ node_room }
-    ensures { Added (tests_into words.now (take tests.count tests.rows)) masks.old masks.new }
+// The graph of some tests.
+#[tactic(auto, using(crate::proofs::Laws::adding))]
+fn masks_of(rows: &[Test], words: &[u64]) -> [u64; limits::NODES]
+    ensures { Added (tests_into words.now rows.now) (replicate node_room 0) result }
 {
-    let count = tests.count;
-    let mut i = 0;
-    while i < count {
-        if limits::TESTS <= i {
-            return;
-        }
-        let t = tests.rows[i];
-        add_test(masks, words, t);
-        i += 1;
+    let mut masks = [0u64; limits::NODES];
+    for t in rows {
+        add_test(&mut masks, words, *t);
     }
+    masks
 }
 
 // The testing order of the tests with the words of their conditions, over so many statuses; none where the graph has a cycle.
-pub fn testing_order(tests: Tests, words: &[u64], statuses: usize) -> Sorting
+#[tactic(auto, using(crate::proofs::Laws::order_of_lem))]
+pub fn testing_order(tests: Tests, words: &[u64], statuses: usize) -> Option<[u8; limits::NODES]>
     requires { statuses ≤ status_limit }
     ensures { result ≡ as_sorting (order_for (statuses * 2) (tests_into words.now (take tests.count tests.rows))) }
 {
-    let mut masks = [0u64; limits::NODES];
-    add_tests(&mut masks, words, tests);
-    graph_order::sort(&masks, statuses * 2)
+    graph_order::sort(&masks_of(tests.listed(), words), statuses * 2)
 }
 
 // The circle of the tests' graph, over so many statuses; none where it has a testing order.
+#[tactic(auto, using(crate::proofs::Laws::circle_of))]
 pub fn circle_of(tests: Tests, words: &[u64], statuses: usize) -> Circle
     requires { statuses ≤ status_limit }
     ensures { result ≡ as_circle (circle_for (statuses * 2) (tests_into words.now (take tests.count tests.rows))) }
 {
-    let mut masks = [0u64; limits::NODES];
-    add_tests(&mut masks, words, tests);
-    graph_circle::find(&masks, statuses * 2)
+    graph_circle::find(&masks_of(tests.listed(), words), statuses * 2)
 }
 
 // Whether a test gives the edge from p to k: alone in a graph it has that edge.
+#[tactic(auto, using(crate::proofs::Laws::gives_is))]
 fn gives_edge(words: &[u64], t: Test, p: usize, k: usize) -> bool
     requires { (p < node_room) × (k < node_room) }
     ensures { result ≡ eqb t.node k && is_in p (test_nodes words.now t) }
 {
-    let mut masks = [0u64; limits::NODES];
-    add_test(&mut masks, words, t);
-    (masks[k] >> p) % 2 == 1
+    let masks = masks_of(&[t], words);
+    graph_order::has(masks[k], p)
 }
 
 // The line of the first test of the node k that gives an edge from p; 0 where none does, or an implied one.
+#[tactic(auto, using(crate::proofs::Laws::lining))]
 pub fn edge_line(tests: Tests, words: &[u64], p: usize, k: usize) -> usize
     requires { (p < node_room) × (k < node_room) }
     ensures { result ≡ line_from words.now (take tests.count tests.rows) p k }
 {
-    let count = tests.count;
-    let mut i = 0;
-    while i < count {
-        if limits::TESTS <= i {
-            return 0;
+    let rows = tests.listed();
+    for t in rows {
+        if gives_edge(words, *t, p, k) {
+            return usize::from(t.line);
         }
-        let t = tests.rows[i];
-        if gives_edge(words, t, p, k) {
-            return places::of_pair(t.line);
-        }
-        i += 1;
     }
     0
 }

@@ -1,10 +1,12 @@
 -- What a caller may conclude: how the masks of a graph are built, that only the edges decide the order, and what the answer says.
 use Prim.Native.Nat.{ℕ, zero, suc, ◌-◌, ◌≤◌, ◌<◌}
 use mathlib.Core.Path.{◌≡◌, refl, sym, ◌∙◌, ap, ap₂}
-use mathlib.Core.Bool.{true, false, true≢false, false≢true}
-use mathlib.Core.List.{List, [], ◌∷◌}
+use mathlib.Core.Bool.{true, false}
+use mathlib.Core.List.{List, [], ◌∷◌, ◌++◌}
 use mathlib.Core.Logic.{inl, inr}
 use mathlib.Core.Option.{Option, none, some}
+use Rattle.std.specs.Prelude as Code
+use Rattle.std.specs.Prelude.{Some, None}
 use native.Mathlib.Omega.{arith}
 use lib.ListN.{length, get_or, take, replicate}
 use lib.Seq.{take_at}
@@ -12,7 +14,6 @@ use Rattle.meaning.specs.Text.{In, any, is_in, from}
 use Rattle.meaning.specs.Graph.{Into, edge, waits, first_free, without, then, first, order_of, order_for}
 use Rattle.theory.specs.Lists.Members.{in_any, any_same, is_in_lem, in_is, common, without_in, from_in}
 use Rattle.limits.specs.Sizes.{node_room}
-use Rattle.graph_order.specs.declared.Sorting.{Sorting}
 use Rattle.graph_order.specs.Masks.{has, members, mask_into, width}
 use Rattle.graph_order.specs.Answers.{as_sorting}
 pub use Rattle.graph_order.proofs.Bits.{has_none}
@@ -85,7 +86,8 @@ module _ (n : ℕ) (into ino : Into) (alike : (p k : ℕ) → p < n → k < n �
   order_same = of_same n (from 0 n) (below_from n)
 
 -- so masks that have a graph's edges give its order
-pub sort_same : (masks : List ℕ) (n : ℕ) (into : Into) (r : Sorting) → n ≤ node_room → ((p k : ℕ) → p < n → k < n → has (get_or masks k 0) p ≡ edge into p k)
+pub sort_same : (masks : List ℕ) (n : ℕ) (into : Into) (r : Code.Option (List ℕ)) → n ≤ node_room
+    → ((p k : ℕ) → p < n → k < n → has (get_or masks k 0) p ≡ edge into p k)
     → r ≡ as_sorting (order_for n (mask_into masks)) → r ≡ as_sorting (order_for n into)
 sort_same masks n into r h alike e = e ∙ ap as_sorting (order_same n (mask_into masks) into (λ p k l g. edge_mask masks p k (omega arith) ∙ alike p k l g))
 
@@ -109,18 +111,20 @@ order_long into (suc m) left = go (first_free into left left) (λ k. order_long 
     go none h = tt
     go (some k) h = more k (order_of into m (without k left)) (h k)
 
-module _ (n : ℕ) (into : Into) (r : Sorting) (is : r ≡ as_sorting (order_for n into)) where
-  pub sort_none : r.found ≡ false → order_for n into ≡ none
-  sort_none t = go (order_for n into) (ap (λ x. x.found) (sym is) ∙ t)
+module _ (n : ℕ) (into : Into) (r : Code.Option (List ℕ)) (is : r ≡ as_sorting (order_for n into)) where
+  pub sort_none : r ≡ None → order_for n into ≡ none
+  sort_none t = go (order_for n into) (sym is ∙ t)
     where
-      go : (x : Option (List ℕ)) → (as_sorting x).found ≡ false → x ≡ none
+      go : (x : Option (List ℕ)) → as_sorting x ≡ None → x ≡ none
       go none t = refl
-      go (some o) t = absurd (true≢false t)
+      go (some o) t = cc
 
-  pub sort_some : r.found ≡ true → order_for n into ≡ some (take n r.order)
+  pub sort_some : (order : List ℕ) → r ≡ Some order → order_for n into ≡ some (take n order)
   unfolding order_for
-  sort_some t = go (order_of into n (from 0 n)) (order_long into n (from 0 n)) (ap (λ x. x.found) (sym is) ∙ t) ∙ ap (λ x. some (take n x.order)) (sym is)
+  sort_some order t = go (order_of into n (from 0 n)) (order_long into n (from 0 n)) (sym is ∙ t)
     where
-      go : (x : Option (List ℕ)) → Long n x → (as_sorting x).found ≡ true → x ≡ some (take n (as_sorting x).order)
-      go none h t = absurd (false≢true t)
-      go (some o) h t = ap some (sym (take_at o (replicate (node_room - length o) 0) n h))
+      go : (x : Option (List ℕ)) → Long n x → as_sorting x ≡ Some order → x ≡ some (take n order)
+      go none h t = cc
+      go (some o) h t =
+          let e : o ++ replicate (node_room - length o) 0 ≡ order = cc in
+          ap some (sym (take_at o (replicate (node_room - length o) 0) n h) ∙ ap (take n) e)

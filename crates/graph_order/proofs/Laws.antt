@@ -1,9 +1,11 @@
 -- The functions' answers in return form: the premises are what is known at a place, the conclusion is what is asked there.
-use Prim.Native.Nat.{ℕ, zero, suc, ◌+◌, ◌*◌, ◌/◌, ◌%◌, ◌^◌, ◌-◌, ◌≤◌, ◌<◌}
+use Prim.Native.Nat.{ℕ, zero, suc, ◌+◌, ◌*◌, ◌%◌, ◌^◌, ◌-◌, ◌≤◌, ◌<◌}
 use mathlib.Core.Path.{◌≡◌, refl, sym, ◌∙◌, ap, ap₂, subst}
 use mathlib.Core.Bool.{Bool, true, false, not, ◌&&◌, ◌||◌, cond, true≢false, and-true, and-false, or-false}
 use mathlib.Core.List.{List, [], ◌∷◌, ◌++◌}
 use mathlib.Core.Option.{Option, none, some}
+use Rattle.std.specs.Prelude as Code
+use Rattle.std.specs.Prelude.{Some, None, MatchOption}
 use mathlib.Core.Logic.{inl, inr}
 use native.Mathlib.Omega.{arith}
 use native.Mathlib.Numerals.{add-one}
@@ -18,10 +20,7 @@ use borrow.Author.Tests.{lt-ltb, le-ltb, not-true}
 use Rattle.meaning.specs.Text.{In}
 use Rattle.meaning.specs.Graph.{Into, waits, first_free, without, then, first, order_of, order_for}
 use Rattle.limits.specs.Sizes.{node_room}
-use Rattle.graph_order.specs.declared.Sorting.{Sorting}
-use Rattle.graph_order.specs.declared.Free.{Free}
-use Rattle.graph_order.specs.declared.Free.TheVariants.{Node, Stuck}
-use Rattle.graph_order.specs.Masks.{bit_at, has, members, mask_into, meet, with_bit, width}
+use Rattle.graph_order.specs.Masks.{has, members, mask_into, meet, with_bit, width}
 use Rattle.graph_order.specs.Answers.{as_sorting, as_free}
 use Rattle.graph_order.proofs.Bits.{shifted, has_or, has_below}
 use Rattle.graph_order.proofs.Members.{and_left, and_right, members_from, member_has}
@@ -48,39 +47,16 @@ has_with m k j = go (ltb k width)
 pub with_nodes : (m k r : ℕ) → r ≡ with_bit m k → (j : ℕ) → has r j ≡ has m j || (eqb j k && ltb k width)
 with_nodes m k r e j = ap (λ x. has x j) e ∙ has_with m k j
 
--- THE NODES BELOW n
-
-pub full_all : (n : ℕ) → n ≡ width → 18446744073709551615 ≡ 2 ^ n - 1
-full_all n e = sym (ap (λ m. 2 ^ m - 1) e)
-
-pub full_some : (n : ℕ) → n ≤ width → (n ≡ width → ⊥) → 1 * 2 ^ n % 18446744073709551616 - 1 ≡ 2 ^ n - 1
-full_some n l ne = ap (λ x. x - 1) (shifted n (omega arith))
-
-pub full_fits : (n : ℕ) → n ≤ width → (n ≡ width → ⊥) → 1 ≤ 1 * 2 ^ n % 18446744073709551616
-full_fits n l ne = let p : 0 < 2 ^ n = pow_pos n in rw (shifted n (omega arith)) (omega arith)
+pub ruleset adding = (with_past, with_room_lem, with_nodes)
 
 -- A FREE NODE
 
-module _ (mask left k : ℕ) where
-  pub free_gone : left / 2 ^ k % 2 ≡ 0 → false ≡ has left k && not (meet mask left)
-  unfolding has bit_at
-  free_gone e = sym (rw e)
-
-  pub free_left : mask < 2 ^ 64 → (left / 2 ^ k % 2 ≡ 0 → ⊥) → eqb (bit_and mask left) 0 ≡ has left k && not (meet mask left)
-  unfolding has bit_at
-  free_left h ne =
-      let one : left / 2 ^ k % 2 ≡ 1 = omega arith in
-      sym (rw (one, meet_and mask left h) (twice (eqb (bit_and mask left) 0)))
-    where
-      twice : (b : Bool) → not (not b) ≡ b
-      twice true = refl
-      twice false = refl
-
-pub ruleset adding = (with_past, with_room_lem, with_nodes)
-
-pub ruleset filling = (full_all, full_some, full_fits)
-
-pub ruleset freeing = (free_gone, free_left)
+pub free_left : (mask left k : ℕ) → mask < 2 ^ 64 → has left k ≡ true → eqb (bit_and mask left) 0 ≡ has left k && not (meet mask left)
+free_left mask left k h t = sym (rw (t, meet_and mask left h) (twice (eqb (bit_and mask left) 0)))
+  where
+    twice : (b : Bool) → not (not b) ≡ b
+    twice true = refl
+    twice false = refl
 
 -- THE FIRST FREE NODE: what is behind the cursor decides
 
@@ -112,69 +88,64 @@ free_among into left (x ∷ ks) = go (waits into left x) (first_free into left k
 abbrev pub free_of : List ℕ → ℕ → Option ℕ
 free_of masks left = first_free (mask_into masks) (members left) (members left)
 
-abbrev pub free_from : List ℕ → ℕ → ℕ → Option ℕ
+abbrev free_from : List ℕ → ℕ → ℕ → Option ℕ
 free_from masks left i = first_free (mask_into masks) (members left) (members_from i left)
 
--- the search at node i of those below n
-pub record Seeking (masks : List ℕ) (left n i : ℕ) : Type 0 where
-  pub within : i ≤ n
-  pub same : free_of masks left ≡ free_from masks left i
+-- the test of a node
+abbrev pub free_at : List ℕ → ℕ → ℕ → Bool
+free_at masks left k = has left k && not (meet (get_or masks k 0) left)
 
-module _ (masks : List ℕ) (left n : ℕ) where
-  pub seek_start : Seeking masks left n 0
-  seek_start = record { within = omega arith; same = ap (first_free (mask_into masks) (members left)) (members_all left) }
+module _ (masks : List ℕ) (left : ℕ) where
+  taken : (i : ℕ) → i < width → free_at masks left i ≡ true → free_from masks left i ≡ some i
+  unfolding waits meet mask_into
+  taken i h t =
+      let free : meet (get_or masks i 0) left ≡ false = not-true _ (and_right (has left i) (not (meet (get_or masks i 0) left)) t) in
+      ap (first_free (mask_into masks) (members left)) (members_here left i h (and_left (has left i) (not (meet (get_or masks i 0) left)) t))
+      ∙ free_here (mask_into masks) (members left) i (members_from (i + 1) left) free
 
-  module _ (i : ℕ) (s : Seeking masks left n i) where
-    taken : i < width → has left i ≡ true → meet (get_or masks i 0) left ≡ false → free_from masks left i ≡ some i
-    unfolding waits meet mask_into
-    taken h t w =
-        ap (first_free (mask_into masks) (members left)) (members_here left i h t) ∙ free_here (mask_into masks) (members left) i (members_from (i + 1) left) w
+  passed : (i : ℕ) → i < width → (a c : Bool) → has left i ≡ a → meet (get_or masks i 0) left ≡ c → a && not c ≡ false
+      → free_from masks left i ≡ free_from masks left (i + 1)
+  unfolding waits meet mask_into
+  passed i h true true t w q =
+      ap (first_free (mask_into masks) (members left)) (members_here left i h t)
+      ∙ free_waits (mask_into masks) (members left) i (members_from (i + 1) left) w
+  passed i h true false t w q = absurd (true≢false q)
+  passed i h false c t w q = ap (first_free (mask_into masks) (members left)) (members_past left i h t)
 
-    passed : i < width → (a c : Bool) → has left i ≡ a → meet (get_or masks i 0) left ≡ c → a && not c ≡ false
-        → free_from masks left i ≡ free_from masks left (i + 1)
-    unfolding waits meet mask_into
-    passed h true true t w q =
-        ap (first_free (mask_into masks) (members left)) (members_here left i h t)
-        ∙ free_waits (mask_into masks) (members left) i (members_from (i + 1) left) w
-    passed h true false t w q = absurd (true≢false q)
-    passed h false c t w q = ap (first_free (mask_into masks) (members left)) (members_past left i h t)
+  -- none of the nodes below i is free
+  passed_all : (i : ℕ) → i ≤ width → ((k : ℕ) → k < i → free_at masks left k ≡ false) → free_of masks left ≡ free_from masks left i
+  passed_all zero l h = ap (first_free (mask_into masks) (members left)) (members_all left)
+  passed_all (suc i) l h =
+      passed_all i (omega arith) (λ k g. h k (omega arith))
+      ∙ passed i (omega arith) (has left i) (meet (get_or masks i 0) left) refl refl (h i (omega arith))
+      ∙ ap (free_from masks left) (add-one i)
 
-    pub seek_found : (b : Bool) → n ≤ node_room → i < n → b ≡ has left i && not (meet (get_or masks i 0) left) → b ≡ true
-        → Node i ≡ as_free (free_of masks left)
-    seek_found b h l e t =
-        let both : has left i && not (meet (get_or masks i 0) left) ≡ true = sym e ∙ t in
-        let here : has left i ≡ true = and_left (has left i) (not (meet (get_or masks i 0) left)) both in
-        let free : meet (get_or masks i 0) left ≡ false = not-true _ (and_right (has left i) (not (meet (get_or masks i 0) left)) both) in
-        sym (ap as_free (s.same ∙ taken (omega arith) here free))
-
-    pub seek_next : (b : Bool) → n ≤ node_room → i < n → b ≡ has left i && not (meet (get_or masks i 0) left) → b ≡ false → (j : ℕ) → j ≡ i + 1
-        → Seeking masks left n j
-    seek_next b h l e t j z =
-        record {
-          within = omega arith;
-          same = s.same ∙ passed (omega arith) (has left i) (meet (get_or masks i 0) left) refl refl (sym e ∙ t) ∙ ap (free_from masks left) (sym z);
-        }
-
-    pub seek_end : left < 2 ^ n → n ≤ i → Stuck ≡ as_free (free_of masks left)
-    unfolding first_free
-    seek_end h l = sym (ap as_free (s.same ∙ ap (first_free (mask_into masks) (members left)) (members_end left n i h l)))
-
-pub ruleset seeking = (seek_start, seek_found, seek_next, seek_end)
+  -- so the first of the numbers below n that is free is the first free node
+  pub first_is : (n : ℕ) (r : Code.Option ℕ) → n ≤ node_room → left < 2 ^ n
+      → MatchOption r ((k : ℕ) → 0 ≤ k → k < n → free_at masks left k ≡ false)
+      (λ i. (0 ≤ i) × (i < n) × (free_at masks left i ≡ true) × ((k : ℕ) → 0 ≤ k → k < i → free_at masks left k ≡ false))
+      → r ≡ as_free (free_of masks left)
+  unfolding first_free
+  first_is n None h b m =
+      sym (ap as_free (passed_all n (omega arith) (λ k l. m k (omega arith) l)
+      ∙ ap (first_free (mask_into masks) (members left)) (members_end left n n b (omega arith))))
+  first_is n (Some i) h b m =
+      sym (ap as_free (passed_all i (omega (arith, m.1)) (λ k l. m.3 k (omega arith) l) ∙ taken i (omega (arith, m.1)) m.2))
 
 -- WHAT THE SEARCH ANSWERED
 
-abbrev pub node_of : Free → Option ℕ
-node_of (Node k) = some k
-node_of Stuck = none
+abbrev pub node_of : Code.Option ℕ → Option ℕ
+node_of (Some k) = some k
+node_of None = none
 
-pub answered : (f : Option ℕ) (p : Free) → p ≡ as_free f → f ≡ node_of p
+pub answered : (f : Option ℕ) (p : Code.Option ℕ) → p ≡ as_free f → f ≡ node_of p
 answered none p e = sym (ap node_of e)
 answered (some k) p e = sym (ap node_of e)
 
 -- a node was found: it is in the mask, and the mask without it has the others
-module _ (masks : List ℕ) (left n : ℕ) (below : left < 2 ^ n) (p : Free) (k : ℕ) (e : p ≡ as_free (free_of masks left)) (t : p ≡ Node k) where
+module _ (masks : List ℕ) (left n : ℕ) (below : left < 2 ^ n) (k : ℕ) (e : Some k ≡ as_free (free_of masks left)) where
   pub node_is : free_of masks left ≡ some k
-  node_is = answered (free_of masks left) p e ∙ ap node_of t
+  node_is = answered (free_of masks left) (Some k) e
 
   node_has : has left k ≡ true
   node_has = member_has left k (subst (Among (members left)) node_is (free_among (mask_into masks) (members left) (members left)))
@@ -196,9 +167,9 @@ module _ (masks : List ℕ) (left n : ℕ) (below : left < 2 ^ n) (p : Free) (k 
 -- THE ORDER: that of the nodes left, written behind what stands there, gives the whole
 
 -- the answer for an order that is written from the place len on
-abbrev pub placed : ℕ → List ℕ → Option (List ℕ) → Sorting
-placed len order none = record { found = false; order = replicate node_room 0 }
-placed len order (some o) = record { found = true; order = take len order ++ (o ++ drop (len + length o) order) }
+abbrev pub placed : ℕ → List ℕ → Option (List ℕ) → Code.Option (List ℕ)
+placed len order none = None
+placed len order (some o) = Some (take len order ++ (o ++ drop (len + length o) order))
 
 pub record Going (masks : List ℕ) (n left : ℕ) (order : List ℕ) (len : ℕ) : Type 0 where
   pub within : len ≤ n
@@ -224,7 +195,7 @@ blank (suc n) (suc m) = ap (λ k. replicate k 0) (less n m) ∙ blank n m
 placed_more : (order : List ℕ) (len k : ℕ) → len < length order → (x : Option (List ℕ)) → placed len order (then k x) ≡ placed (len + 1) (set order len k) x
 placed_more order len k h none = refl
 placed_more order len k h (some o) =
-    ap (λ l. record { found = true; order = l }) (sym (front ∙ append_snoc (take len order) k (o ++ drop (len + length (k ∷ o)) order)))
+    ap Some (sym (front ∙ append_snoc (take len order) k (o ++ drop (len + length (k ∷ o)) order)))
   where
     z : len + 1 + length o ≡ len + length (k ∷ o)
     z = omega arith
@@ -254,7 +225,7 @@ module _ (masks : List ℕ) (n : ℕ) where
       go none = refl
       go (some o) =
           let z : length o ≡ 0 + length o = omega arith in
-          ap (λ r. record { found = true; order = o ++ r }) (blank (length o) node_room ∙ ap (λ m. drop m (replicate node_room 0)) z)
+          ap (λ r. Some (o ++ r)) (blank (length o) node_room ∙ ap (λ m. drop m (replicate node_room 0)) z)
 
   module _ (left : ℕ) (order : List ℕ) (len : ℕ) (s : Going masks n left order len) where
     -- the order from what the search finds, and the whole where nodes are left
@@ -267,14 +238,13 @@ module _ (masks : List ℕ) (n : ℕ) where
         let z : n - len ≡ suc (n - (len + 1)) = omega arith in
         s.same ∙ ap (λ m. placed len order (order_of (mask_into masks) m (members left))) z
 
-    pub going_stuck : (p : Free) → len < n → p ≡ as_free (free_of masks left) → p ≡ Stuck
-        → ◌≡◌ {A = Sorting} (record { found = false; order = replicate node_room 0 }) (as_sorting (order_for n (mask_into masks)))
+    pub going_stuck : (p : Code.Option ℕ) → len < n → p ≡ as_free (free_of masks left) → p ≡ None → None ≡ as_sorting (order_for n (mask_into masks))
     going_stuck p l e t = sym (one_left l ∙ ap (λ f. placed len order (onward f)) (answered (free_of masks left) p e ∙ ap node_of t))
 
     -- a node was found
-    module _ (p : Free) (k : ℕ) (e : p ≡ as_free (free_of masks left)) (t : p ≡ Node k) (h : n ≤ node_room) where
+    module _ (k : ℕ) (e : Some k ≡ as_free (free_of masks left)) (h : n ≤ node_room) where
       in_order : k < n
-      in_order = node_below masks left n s.below p k e t
+      in_order = node_below masks left n s.below k e
 
       pub going_shifts : k < width
       going_shifts = omega (arith, in_order)
@@ -288,23 +258,23 @@ module _ (masks : List ℕ) (n : ℕ) where
           let o : length order ≡ node_room = s.held in
           record {
             within = omega arith;
-            below = without_below masks left n s.below p k e t h left' x;
+            below = without_below masks left n s.below k e h left' x;
             held = ap length y ∙ length-set order len k ∙ o;
             same = one_left l
-                ∙ ap (λ f. placed len order (onward f)) (node_is masks left n s.below p k e t)
+                ∙ ap (λ f. placed len order (onward f)) (node_is masks left n s.below k e)
                 ∙ placed_more order len k (omega arith) (order_of (mask_into masks) (n - (len + 1)) (without k (members left)))
                 ∙ ap (λ l. placed (len + 1) (set order len k) (order_of (mask_into masks) (n - (len + 1)) l))
-                (without_members masks left n s.below p k e t h left' x)
+                (without_members masks left n s.below k e h left' x)
                 ∙ ap₂ (λ m r. placed m r (order_of (mask_into masks) (n - m) (members left'))) (sym z) (sym y);
           }
 
-    pub going_end : n ≤ len → ◌≡◌ {A = Sorting} (record { found = true; order = order }) (as_sorting (order_for n (mask_into masks)))
+    pub going_end : n ≤ len → Some order ≡ as_sorting (order_for n (mask_into masks))
     unfolding order_of
     going_end h =
         let z : n - len ≡ 0 = omega arith in
         let y : len + 0 ≡ len = omega arith in
         sym (s.same ∙ ap (λ m. placed len order (order_of (mask_into masks) m (members left))) z
-        ∙ ap (λ m. record { found = true; order = take len order ++ drop m order }) y
-        ∙ ap (λ o. record { found = true; order = o }) (take-append-drop len order))
+        ∙ ap (λ m. Some (take len order ++ drop m order)) y
+        ∙ ap Some (take-append-drop len order))
 
 pub ruleset going = (going_start, going_stuck, going_shifts, going_fits, going_next, going_end)

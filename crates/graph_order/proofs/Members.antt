@@ -5,14 +5,16 @@ use mathlib.Core.Bool.{Bool, true, false, not, ◌&&◌, false≢true}
 use mathlib.Core.List.{List, [], ◌∷◌}
 use native.Mathlib.Omega.{arith}
 use native.Mathlib.Numerals.{add-one}
+use mir.Syntax.{w64}
 use lib.Dec.{eqb, ltb}
 use lib.Bits.{bit_and, bit_xor, and_le_l}
 use borrow.Author.Tests.{eqb-true, eqb-false, lt-ltb, le-ltb}
+use Rattle.std.specs.Int.{trailing_zeros}
 use Rattle.meaning.specs.Text.{In, keep, is_in, from}
 use Rattle.meaning.specs.Graph.{without}
 use Rattle.theory.specs.Lists.Members.{in_keep, keep_in, in_any, is_in_lem, in_is, common, in_from}
 use Rattle.graph_order.specs.Masks.{has, members, meet, width}
-use Rattle.graph_order.proofs.Bits.{has_none, has_some, has_and, has_full, has_xor, has_high}
+use Rattle.graph_order.proofs.Bits.{has_none, has_lowest, has_and, has_full, has_xor, has_high}
 
 -- two tests of which each follows from the other
 pub same_test : (a b : Bool) → (a ≡ true → b ≡ true) → (b ≡ true → a ≡ true) → a ≡ b
@@ -130,7 +132,8 @@ meet_and a b h = go (eqb (bit_and a b) 0) refl (meet a b) refl
     one : (bit_and a b ≡ 0 → ⊥) → meet a b ≡ true
     one ne =
         let l : bit_and a b ≤ a = and_le_l a b in
-        let (p, g, t) = has_some (bit_and a b) (omega arith) ne in
+        let (g, t, below) = has_lowest (bit_and a b) (omega arith) ne in
+        let p = trailing_zeros w64 (bit_and a b) in
         let s : has a p && has b p ≡ true = sym (has_and a b p) ∙ t in
         in_any (λ p. is_in p (members b)) p (members a) (has_member a p g (and_left (has a p) (has b p) s))
         (in_is p (members b) (has_member b p g (and_right (has a p) (has b p) s)))

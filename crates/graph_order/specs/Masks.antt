@@ -1,5 +1,6 @@
 -- A set of nodes as a number, whose bits tell its nodes, and a graph as a list of them.
-use Rattle.std.specs.Prelude.{ℕ, ◌/◌, ◌%◌, ◌^◌, Bool, cond, List, eqb, ltb, get_or}
+use Rattle.std.specs.Prelude.{ℕ, ◌^◌, Bool, cond, List, eqb, ltb, get_or}
+use Rattle.std.specs.Int.{bit_at}
 use Rattle.std.specs.Int.Bits.{bit_or}
 use Rattle.meaning.specs.Text.{any, keep, is_in, from}
 use Rattle.meaning.specs.Graph.{Into}
@@ -7,10 +8,6 @@ use Rattle.meaning.specs.Graph.{Into}
 -- how many nodes a mask has room for: the bits of a number of the code
 abbrev pub width : ℕ
 width = 64
-
--- bit k of a number
-unfoldable pub bit_at : ℕ → ℕ → ℕ
-bit_at m k = m / 2 ^ k % 2
 
 -- the mask has the node k
 unfoldable pub has : ℕ → ℕ → Bool

@@ -1,13 +1,10 @@
--- Laws of the functions: a rule's test, the tests of all rules, and the closings behind them.
-use Prim.Native.Nat.{ℕ, zero, suc, ◌+◌, ◌-◌, ◌*◌, ◌≤◌, ◌<◌, min}
+-- Laws of the functions: no tests, the tests of all rules, and the closings behind them.
+use Prim.Native.Nat.{ℕ, zero, suc, ◌+◌, ◌-◌, ◌≤◌, ◌<◌, min}
 use mathlib.Core.Path.{◌≡◌, refl, sym, ap, ap₂, ◌∙◌}
-use mathlib.Core.Bool.{true, false}
 use mathlib.Core.List.{List, [], ◌∷◌, ◌++◌}
 use native.Mathlib.Omega.{arith}
 use native.Mathlib.Nat.{add-zero}
 use native.Mathlib.Numerals.{add-one}
-use mir.Val.{Fits}
-use mir.Syntax.{w16, w64}
 use lib.ListN.{length, length-take, length-append, drop_of_length-le, get_or, take, drop, set, replicate}
 use lib.Seq.{sets, drop-cons, get_or-take}
 use Rattle.meaning.specs.Limits.{rule_limit, status_limit}
@@ -28,22 +25,11 @@ get_d_any [] i d e h = absurd (omega arith)
 get_d_any (x ∷ xs) zero d e h = refl
 get_d_any (x ∷ xs) (suc i) d e h = get_d_any xs i d e (omega arith)
 
--- ONE TEST
+-- NO TEST
 
 pub none_behind : (t : Test) → t ≡ no_test → record { rows = replicate test_room t; count = 0 } ≡ as_tests []
 unfolding as_tests padded
 none_behind t e = ap (λ (t : Test). record { rows = replicate test_room t; count = 0 }) e
-
-module _ (under : List ℕ) (l : ℕ) (r : Rule) (n : ℕ) where
-  pub test_up : r.plus ≡ true → n ≡ r.status * 2 → (w : ℕ) → w ≡ r.status
-      → record { node = n; home = get_or under w 0; trigger = r.trigger; from = r.from; to = r.to; line = l } ≡ rule_test under l r
-  test_up e z w is = rw (e, z, is)
-
-  pub test_down : r.plus ≡ false → n ≡ r.status * 2 + 1
-      → record { node = n; home = 0; trigger = r.trigger; from = r.from; to = r.to; line = l } ≡ rule_test under l r
-  test_down e z = rw (e, z)
-
-pub ruleset testing = (none_behind, test_up, test_down)
 
 -- THE TESTS OF THE RULES
 
@@ -83,12 +69,6 @@ module _ (under : List ℕ) (line : ℕ) (rules : Rules) (count : ℕ) (rows : L
         let e : get_or rules.rows i d ≡ get_or rules.rows i no_rule = get_d_any rules.rows i d no_rule (omega (arith, inv.low, inv.long)) in
         rw e (ready.statuses i)
 
-    pub ruling_sum : (n : ℕ) → n ≡ line + i → Fits w64 n
-    ruling_sum n e = omega (arith, ready.lines, inv.low)
-
-    pub ruling_fits : (n : ℕ) → n ≡ line + i → Fits w16 n
-    ruling_fits n e = omega (arith, ready.lines, inv.low)
-
     pub ruling_next : (d : Rule) (n : ℕ) → n ≡ line + i → (t : Test) → t ≡ rule_test under n (get_or rules.rows i d) → (j : ℕ) → j ≡ i + 1
         → Ruling under line rules count (set rows i t) j
     unfolding rule_rows
@@ -119,13 +99,9 @@ module _ (under : List ℕ) (line : ℕ) (rules : Rules) (count : ℕ) (rows : L
   ruling_done h = ruling_laid h
       ∙ ap (λ rs. as_tests (rule_rows under line rs)) (ap (λ n. take n rules.rows) inv.low ∙ take_low rule_limit rules.count rules.rows inv.long)
 
-pub ruleset ruling = (ruling_start, ruling_status, ruling_sum, ruling_fits, ruling_next, ruling_done)
+pub ruleset ruling = (ruling_start, ruling_status, ruling_next, ruling_done)
 
 -- THE CLOSINGS
-
-closed_some : (x c : ℕ) → (c ≡ 0 → ⊥) → closing_row x c ≡ closes x (c - 1) ∷ []
-closed_some x zero n = absurd (n refl)
-closed_some x (suc p) n = let z : p ≡ suc p - 1 = omega arith in ap (λ q. closes x q ∷ []) z
 
 -- at most one for each stage
 closings_few : (x : ℕ) (us : List ℕ) → length (closing_rows x us) ≤ length us
@@ -135,20 +111,18 @@ closings_few x (zero ∷ us) = omega (arith, closings_few (suc x) us)
 closings_few x (suc p ∷ us) = omega (arith, closings_few (suc x) us)
 
 -- the loop over the stages: what is still to come
-pub record Closing (under : List ℕ) (last : ℕ) (rows₀ : List Test) (count₀ : ℕ) (rows : List Test) (count x : ℕ) : Type 0 where
+pub record Closing (under : List ℕ) (last : ℕ) (before now : Tests) (x : ℕ) : Type 0 where
   pub within : x ≤ last
   pub few : last ≤ status_limit
   pub long : length under ≡ status_limit
-  pub counted : count ≤ rule_limit + x
-  pub same : behind (record { rows = rows₀; count = count₀ }) (closing_rows 0 (take last under))
-      ≡ behind (record { rows = rows; count = count }) (closing_rows x (drop x (take last under)))
+  pub counted : now.count ≤ rule_limit + x
+  pub same : behind before (closing_rows 0 (take last under)) ≡ behind now (closing_rows x (drop x (take last under)))
 
-pub closing_start : (under : List ℕ) (stages last : ℕ) (rows : List Test) (count : ℕ) → length under ≡ status_limit → last ≡ min stages status_limit
-    → count ≤ rule_limit → Closing under last rows count rows count 0
-closing_start under stages last rows count l e h = record { within = omega arith; few = omega arith; long = l; counted = omega arith; same = refl }
+pub closing_start : (under : List ℕ) (stages last : ℕ) (tests : Tests) → length under ≡ status_limit → last ≡ min stages status_limit
+    → tests.count ≤ rule_limit → Closing under last tests tests 0
+closing_start under stages last tests l e h = record { within = omega arith; few = omega arith; long = l; counted = omega arith; same = refl }
 
-module _ (under : List ℕ) (last : ℕ) (rows₀ : List Test) (count₀ : ℕ) (rows : List Test) (count x : ℕ)
-    (inv : Closing under last rows₀ count₀ rows count x) where
+module _ (under : List ℕ) (last : ℕ) (before now : Tests) (x : ℕ) (inv : Closing under last before now x) where
   -- the stage at the place
   next_stage : x < last → drop x (take last under) ≡ get_or under x 0 ∷ drop (suc x) (take last under)
   next_stage h = drop-cons (take last under) x 0 (rw length-take (omega (arith, inv.few, inv.long)))
@@ -157,58 +131,57 @@ module _ (under : List ℕ) (last : ℕ) (rows₀ : List Test) (count₀ : ℕ) 
   pub closing_stage : x < last → x < status_limit
   closing_stage h = omega (arith, inv.few)
 
-  module _ (h : x < last) (y : ℕ) (z : y ≡ x + 1) where
-    pub closing_none : get_or under x 0 ≡ 0 → Closing under last rows₀ count₀ rows count y
+  pub closing_room : x < last → now.count < test_room
+  closing_room h = omega (arith, inv.counted, inv.few)
+
+  module _ (h : x < last) (y : ℕ) (z : y ≡ x + 1) (after : Tests) where
+    pub closing_none : (1 ≤ get_or under x 0 → ⊥) → after ≡ now → Closing under last before after y
     unfolding closing_rows
-    closing_none e = rw (z, add-one) (record {
+    closing_none ne is = rw (z, is, add-one) (record {
       within = omega arith;
       few = inv.few;
       long = inv.long;
       counted = omega (arith, inv.counted);
       same =
           inv.same
-          ∙ ap (λ us. behind (record { rows = rows; count = count }) (closing_rows x us)) (next_stage h)
-          ∙ ap (λ c. behind (record { rows = rows; count = count }) (closing_row x c ++ closing_rows (suc x) (drop (suc x) (take last under)))) e;
+          ∙ ap (λ us. behind now (closing_rows x us)) (next_stage h)
+          ∙ ap (λ c. behind now (closing_row x c ++ closing_rows (suc x) (drop (suc x) (take last under)))) e;
     })
+      where
+        e : get_or under x 0 ≡ 0
+        e = omega arith
 
-    pub closing_room : count < test_room
-    closing_room = omega (arith, inv.counted, inv.few)
-
-    pub closing_size : (n : ℕ) → n ≡ count * 10 → Fits w64 n
-    closing_size n e = omega (arith, closing_room)
-
-    pub closing_fits : (n : ℕ) → n ≡ count + 1 → Fits w64 n
-    closing_fits n e = omega (arith, closing_room)
-
-    pub closing_put : (get_or under x 0 ≡ 0 → ⊥) → (t : Test) → t ≡ closes x (get_or under x 0 - 1) → (n : ℕ) → n ≡ count + 1
-        → Closing under last rows₀ count₀ (set rows count t) n y
+    pub closing_put : (p : ℕ) → (1 ≤ get_or under x 0) × (p ≡ get_or under x 0 - 1) → (t : Test) → t ≡ closes x p
+        → after ≡ record { rows = set now.rows now.count t; count = now.count + 1 } → Closing under last before after y
     unfolding closing_rows
-    closing_put ne t is n m = rw (z, m, add-one x, add-one count) (record {
+    closing_put p some t is put = rw (z, put, add-one x, add-one now.count) (record {
       within = omega arith;
       few = inv.few;
       long = inv.long;
       counted = omega (arith, inv.counted);
       same =
           let rest = closing_rows (suc x) (drop (suc x) (take last under)) in
-          let sum : count + suc (length rest) ≡ suc count + length rest = omega arith in
+          let sum : now.count + suc (length rest) ≡ suc now.count + length rest = omega arith in
           inv.same
-          ∙ ap (λ us. behind (record { rows = rows; count = count }) (closing_rows x us)) (next_stage h)
-          ∙ ap (λ cs. behind (record { rows = rows; count = count }) (cs ++ rest)) (closed_some x (get_or under x 0) ne)
-          ∙ ap₂ (λ (t : Test) k. record { rows = sets (set rows count t) (suc count) rest; count = k }) (sym is) sum;
+          ∙ ap (λ us. behind now (closing_rows x us)) (next_stage h)
+          ∙ ap (λ c. behind now (closing_row x c ++ rest)) e
+          ∙ ap₂ (λ (t : Test) k. record { rows = sets (set now.rows now.count t) (suc now.count) rest; count = k }) (sym is) sum;
     })
+      where
+        e : get_or under x 0 ≡ suc p
+        e = omega arith
 
-pub closing_done : (under : List ℕ) (stages last : ℕ) (tests : Tests) (rows : List Test) (count x : ℕ)
-    → Closing under last tests.rows tests.count rows count x → last ≡ min stages status_limit → last ≤ x
-    → record { rows = rows; count = count } ≡ behind tests (closing_rows 0 (take stages under))
+pub closing_done : (under : List ℕ) (stages last : ℕ) (before now : Tests) (x : ℕ) → Closing under last before now x → last ≡ min stages status_limit → last ≤ x
+    → now ≡ behind before (closing_rows 0 (take stages under))
 unfolding closing_rows
-closing_done under stages last tests rows count x inv e h =
+closing_done under stages last before now x inv e h =
     let none : drop x (take last under) ≡ [] = drop_of_length-le (take last under) {i = x} (rw length-take (omega arith)) in
-    sym (ap (λ us. behind tests (closing_rows 0 us)) (sym (take_low status_limit stages under inv.long) ∙ ap (λ n. take n under) (sym e))
+    sym (ap (λ us. behind before (closing_rows 0 us)) (sym (take_low status_limit stages under inv.long) ∙ ap (λ n. take n under) (sym e))
     ∙ inv.same
-    ∙ ap (λ us. behind (record { rows = rows; count = count }) (closing_rows x us)) none
-    ∙ ap (λ n. record { rows = rows; count = n }) (add-zero count))
+    ∙ ap (λ us. behind now (closing_rows x us)) none
+    ∙ ap (λ n. record { rows = now.rows; count = n }) (add-zero now.count))
 
-pub ruleset shutting = (closing_start, closing_stage, closing_none, closing_room, closing_size, closing_fits, closing_put, closing_done)
+pub ruleset shutting = (closing_start, closing_stage, closing_none, closing_room, closing_put, closing_done)
 
 -- ALL TESTS
 

@@ -22,6 +22,7 @@ pub struct Test {
 }
 
 // The tests: a sheet's rules and child stages.
+// Stays: a rule of the project (no heap, fixed memory) wants an array with its count beside it; `listed` is the slice that others read.
 #[derive(Clone, Copy)]
 pub struct Tests {
     pub rows: [Test; limits::TESTS],
@@ -43,6 +44,7 @@ pub fn no_test() -> Test
 }
 
 // The tests of a refused sheet: a blank table.
+#[tactic(auto, using(crate::proofs::Laws::none_behind))]
 pub fn no_tests() -> Tests
     ensures { result ≡ as_tests [] }
 {
@@ -52,26 +54,29 @@ pub fn no_tests() -> Tests
     }
 }
 
+impl Tests {
+    // The tests themselves, without what stands behind them.
+    pub fn listed(&self) -> &[Test]
+        ensures { result.now ≡ take self.now.count self.now.rows }
+    {
+        self.rows.get(..self.count).unwrap_or(&self.rows)
+    }
+}
+
 // The test of a rule: a `+` rule asks for the stage over its status.
 fn rule_test(r: Rule, under: &[u8; limits::STATUSES], line: u16) -> Test
     requires { r.status < status_limit }
     ensures { result ≡ rule_test under.now line r }
 {
-    let trigger = r.trigger;
-    if r.plus {
-        return Test {
-            node: r.status * 2,
-            home: under[places::of_byte(r.status)],
-            trigger,
-            from: r.from,
-            to: r.to,
-            line,
-        };
-    }
+    let (node, home) = if r.plus {
+        (r.status * 2, under[usize::from(r.status)])
+    } else {
+        (r.status * 2 + 1, 0)
+    };
     Test {
-        node: r.status * 2 + 1,
-        home: 0,
-        trigger,
+        node,
+        home,
+        trigger: r.trigger,
         from: r.from,
         to: r.to,
         line,
@@ -94,45 +99,37 @@ fn closing(x: usize, p: u8) -> Test
 }
 
 // The tests of the rules, the first of which stands on `line`.
+#[tactic(auto, using(crate::proofs::Laws::ruling))]
 fn rule_tests(rules: Rules, under: &[u8; limits::STATUSES], line: usize) -> Tests
     requires { Ready rules line }
     ensures { result ≡ as_tests (rule_rows under.now line (take rules.count rules.rows)) }
 {
-    let count = places::lower(rules.count, limits::RULES);
+    let count = rules.count.min(limits::RULES);
     let mut rows = [no_test(); limits::TESTS];
-    let mut i = 0;
-    while i < count {
-        let r = rules.rows[i];
-        rows[i] = rule_test(r, under, (line + i) as u16);
-        i += 1;
+    for i in 0..count {
+        rows[i] = rule_test(rules.rows[i], under, (line + i) as u16);
     }
     Tests { rows, count }
 }
 
 // The closings of the child stages put behind the tests.
-fn with_closings(tests: Tests, under: [u8; limits::STATUSES], stages: usize) -> Tests
+#[tactic(auto, using(crate::proofs::Laws::shutting))]
+fn with_closings(mut tests: Tests, under: [u8; limits::STATUSES], stages: usize) -> Tests
     requires { tests.count ≤ rule_limit }
     ensures { result ≡ behind tests (closing_rows 0 (take stages under)) }
 {
-    let last = places::lower(stages, limits::STATUSES);
-    let mut rows = tests.rows;
-    let mut count = tests.count;
-    let mut x = 0;
-    while x < last {
-        let code = under[x];
-        let stage = x;
-        x += 1;
-        if code == 0 {
-            continue;
+    for x in 0..stages.min(limits::STATUSES) {
+        if let Some(parent) = under[x].checked_sub(1) {
+            tests.rows[tests.count] = closing(x, parent);
+            tests.count += 1;
         }
-        rows[count] = closing(stage, code - 1);
-        count += 1;
     }
-    Tests { rows, count }
+    tests
 }
 
 // The tests of a sheet that names so many, each with node, home and line: its rules, which stand behind a line for the model and one for each name, then the
 // closings of its child stages.
+#[tactic(auto, using(crate::proofs::Laws::gathering))]
 pub fn tests_of(
     rules: Rules,
     under: [u8; limits::STATUSES],

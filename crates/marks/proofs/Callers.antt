@@ -1,11 +1,9 @@
 -- Marks stand for statuses, codes for values: what is read of them.
-use Prim.Native.Nat.{ℕ, ◌≤◌}
-use mathlib.Core.Path.{◌≡◌, refl, ap, ◌∙◌, sym}
+use Prim.Native.Nat.{ℕ}
+use mathlib.Core.Path.{◌≡◌, refl, ap, ◌∙◌}
 use mathlib.Core.Bool.{Bool, true, false}
 use mathlib.Core.List.{List, [], ◌∷◌, map}
-use native.Mathlib.Omega.{arith}
-use lib.Dec.{eqb}
-use lib.ListN.{length, get_or, get_or-map, get_or-eq_default}
+use lib.ListN.{get_or, get_or-map}
 use Rattle.meaning.specs.Limits.{field_limit, status_limit}
 use Rattle.meaning.specs.Kleene.{Kleene, true₃, false₃, unknown, known₃}
 use Rattle.meaning.specs.Number.{Value, missing, number_at}
@@ -52,12 +50,3 @@ side_again (b ∷ bs) = rw (code_yes b, side_again bs)
 pub value_at : (vs : List Value) (f : ℕ) → field_in (valued vs) f ≡ get_or vs f missing
 unfolding valued
 value_at vs f = ap value_of (padded_at field_limit 0 (map coded vs) f ∙ get_or-map coded vs f missing) ∙ value_coded (get_or vs f missing)
-
--- THE RETURNS of the functions
-pub mark_behind : (marks : List ℕ) (x : ℕ) → length marks ≤ x → 0 ≡ get_or marks x 0
-mark_behind marks x h = sym (get_or-eq_default marks 0 {n = x} (omega arith))
-
-pub yes_is : (marks : List ℕ) (x m : ℕ) → m ≡ get_or marks x 0 → eqb m 2 ≡ yes_at marks x
-yes_is marks x m e = ap (λ n. eqb n 2) e
-
-pub ruleset marking = (mark_behind, yes_is)

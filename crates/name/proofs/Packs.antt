@@ -15,30 +15,17 @@ use lib.ListN.{length, drop, take, get_or, drop_of_length-le, length-drop}
 use lib.Seq.{drop-cons, get_or-take}
 use Rattle.meaning.specs.Text.{run, same, among, find, later, any, is_in, from}
 use Rattle.meaning.specs.Limits.{name_bytes}
-use Rattle.meaning.specs.Name.{Name, letter, name_byte, reserved}
+use Rattle.meaning.specs.Name.{Name, name_byte, reserved}
 use Rattle.theory.specs.Lists.Members.{every, eqb_alike}
 use Rattle.theory.specs.Papers.Names.{Good, good_plain, good_short, run_first, run_taken, same_equal}
 use Rattle.theory.specs.Reading.Told.{run_fits}
-use Rattle.name.specs.declared.Found.{Found}
-use Rattle.name.specs.declared.Found.TheVariants as F
+use Rattle.std.specs.Prelude.{Some, None}
+use Rattle.std.specs.Prelude.{Option as Maybe}
 use Rattle.text.proofs.Laws.{length_run}
 use Rattle.name.specs.declared.Name.{Name as Kept}
 use Rattle.name.specs.Packed.{base, symbol, byte_of, packed, named_in, named}
 use Rattle.name.specs.Names.{kept, name_of}
 use Rattle.name.specs.Answers.{found_by, same_kept, found_in, place_of, further}
-
--- THE RETURNS OF is_name_byte, from the answer a of is_letter: the code gives back the test that decides
-module _ (x : ℕ) (a : Bool) (is : a ≡ letter x) where
-  pub byte_letter : a ≡ true → a ≡ name_byte x
-  byte_letter e = rw (← is, e)
-
-  pub byte_digit : a ≡ false → 48 ≤ x → leb x 57 ≡ name_byte x
-  byte_digit e h = rw (← is, e, le-leb 48 x h)
-
-  pub byte_other : a ≡ false → x < 48 → leb 48 x ≡ name_byte x
-  byte_other e h = rw (← is, e, lt-leb 48 x h)
-
-pub ruleset byte_returns = (byte_letter, byte_digit, byte_other)
 
 -- SYMBOLS
 
@@ -55,10 +42,6 @@ Plain w = run name_byte w ≡ length w
 
 -- a name byte: its symbol, and back
 module _ (x : ℕ) (e : name_byte x ≡ true) where
-  pub symbol_from : 21 ≤ x
-  unfolding any from
-  symbol_from = leb-true 21 x (every 123 name_byte (leb 21) refl x (byte_below x e) e)
-
   symbol_some : 1 ≤ symbol x
   unfolding any from symbol
   symbol_some = leb-true 1 (symbol x) (every 123 name_byte (λ x. leb 1 (symbol x)) refl x (byte_below x e) e)
@@ -129,9 +112,9 @@ pub good_packable : (w : Name) → Good w → Packable w
 good_packable w h = record { plain = good_plain w h; short = good_short w h }
 
 -- something was found
-abbrev pub is_found : Found → Bool
-is_found (F.At i) = true
-is_found F.Nothing = false
+abbrev pub is_found : Maybe ℕ → Bool
+is_found (Some i) = true
+is_found None = false
 
 module _ (w : List ℕ) (p : Packable w) where
   same_named : (v : ℕ) → same w (named v) ≡ eqb v (packed w)
@@ -158,12 +141,12 @@ module _ (w : List ℕ) (p : Packable w) where
   tabled [] = (refl, refl)
   tabled (k ∷ ks) = rw (same_kept_lem k, find) (go (same_kept (kept w) k) (found_in (kept w) ks) (tabled ks))
     where
-      go : (b : Bool) (f : Found) → (find w (map name_of ks) ≡ place_of f) × (among w (map name_of ks) ≡ is_found f)
-          → (elim b [ true ↦ some 0 | false ↦ later (find w (map name_of ks)) ] ≡ place_of (elim b [ true ↦ F.At 0 | false ↦ further f ]))
-          × ((b || among w (map name_of ks)) ≡ is_found (elim b [ true ↦ F.At 0 | false ↦ further f ]))
+      go : (b : Bool) (f : Maybe ℕ) → (find w (map name_of ks) ≡ place_of f) × (among w (map name_of ks) ≡ is_found f)
+          → (elim b [ true ↦ some 0 | false ↦ later (find w (map name_of ks)) ] ≡ place_of (elim b [ true ↦ Some 0 | false ↦ further f ]))
+          × ((b || among w (map name_of ks)) ≡ is_found (elim b [ true ↦ Some 0 | false ↦ further f ]))
       go true f ih = (refl, refl)
-      go false (F.At i) ih = (rw ih.0, ih.1)
-      go false F.Nothing ih = (rw ih.0, ih.1)
+      go false (Some i) ih = (rw ih.0, ih.1)
+      go false None ih = (rw ih.0, ih.1)
 
   pub find_kept : (ks : List Kept) → find w (map name_of ks) ≡ place_of (found_in (kept w) ks)
   find_kept ks = (tabled ks).0
@@ -223,11 +206,12 @@ pack_end s n i w h e = let z : i ≡ 0 = omega arith in rw z at e
 pub ruleset packing = (pack_start, pack_within, pack_byte, pack_more, pack_mul, pack_add, pack_end)
 
 -- RESERVED WORDS, each by its number
-pub reserved_is : (w : ℕ) → is_in w (map packed reserved) ≡ (eqb w 547 || (eqb w 237 || (eqb w 699 || (eqb w 6309 || (eqb w 29464 || (eqb w 6313 || false))))))
+pub reserved_is : (w : ℕ) → (eqb 547 w || (eqb 237 w || (eqb 699 w || (eqb 6309 w || (eqb 29464 w || (eqb 6313 w || false)))))) ≡ is_in w (map packed reserved)
 unfolding any packed symbol
-reserved_is w = refl
-
-pub ruleset reserving = (reserved_is, eq-eqb, ne_eqb)
+reserved_is w = rw (turned 547, turned 237, turned 699, turned 6309, turned 29464, turned 6313)
+  where
+    turned : (k : ℕ) → eqb k w ≡ eqb w k
+    turned k = eqb_alike k w w k sym sym
 
 -- the words are those numbers' names
 pub reserved_named : (w : List ℕ) → Packable w → among w reserved ≡ is_in (packed w) (map packed reserved)

@@ -7,42 +7,22 @@ ghost use Rattle.meaning.specs.Limits.{name_bytes};
 ghost use Rattle.meaning.specs.Name.{letter, name_byte, reserved, name, new_name, due_name, known};
 ghost use Rattle.theory.specs.Writing.Lent.{Wrote};
 ghost use Rattle.limits.specs.Sizes.{name_room};
-ghost use Rattle.text.specs.Answers.{as_bytes};
+ghost use Rattle.text.specs.Pieces.{as_length};
 ghost use Rattle.name.specs.Packed.{base, symbol, byte_of, packed};
 ghost use Rattle.name.specs.Names.{kept, name_of, spell_room, kept_in, names_in, name_at, table_of, put_in, part_of};
-ghost use Rattle.name.specs.Answers.{as_name, as_known, name_fault, known_fault, found_in};
+ghost use Rattle.name.specs.Answers.{as_name, as_known, found_in};
 
-use text::Bytes;
+use reply::Fault;
+use text::Taken;
 
 // A name as it is kept: its symbols packed into one number.
-#[derive(Clone, Copy)]
+#[derive(Clone, Copy, PartialEq, Eq)]
 pub struct Name {
     pub word: u64,
 }
 
 // The names of a sheet, one behind another, and blank ones behind the last.
 pub type Table = [u64; limits::NAMES];
-
-// A name, and how many bytes it took; or the refusal's number.
-#[derive(Clone, Copy)]
-pub enum NamePiece {
-    Name(Name, usize),
-    Refused(u8),
-}
-
-// A name of a table: its place there, and how many bytes it took; or the refusal's number.
-#[derive(Clone, Copy)]
-pub enum Known {
-    At(usize, usize),
-    Refused(u8),
-}
-
-// Where something stands first.
-#[derive(Clone, Copy)]
-pub enum Found {
-    At(usize),
-    Nothing,
-}
 
 // The most bytes that a kept name has, whatever its number: one more than a name may have.
 const PLACES: usize = limits::NAME_BYTES + 1;
@@ -66,27 +46,25 @@ const END: u64 = 5 + BASE * (14 + BASE * 4);
 fn is_letter(b: u8) -> bool
     ensures { result ≡ letter b }
 {
-    b'a' <= b && b <= b'z'
+    b.is_ascii_lowercase()
 }
 
 fn is_name_byte(b: u8) -> bool
     ensures { result ≡ name_byte b }
 {
-    is_letter(b) || (b'0' <= b && b <= b'9')
+    is_letter(b) || matches!(b, b'0'..=b'9')
 }
 
 // How many bytes the longest run of name bytes at the start of `s` has.
 fn name_run(s: &[u8]) -> usize
     ensures { result ≡ run name_byte s.now }
 {
-    let mut i = 0;
-    while i < s.len() {
-        if !is_name_byte(s[i]) {
+    for (i, b) in s.iter().enumerate() {
+        if !is_name_byte(*b) {
             return i;
         }
-        i += 1;
     }
-    i
+    s.len()
 }
 
 // The symbol of a name byte.
@@ -94,26 +72,21 @@ fn symbol_of(b: u8) -> u64
     requires { name_byte b ≡ true }
     ensures { (result ≡ symbol b) × (result < base) }
 {
-    if b'a' <= b {
-        return (b - 96) as u64;
+    match b {
+        b'a'.. => u64::from(b - 96),
+        _ => u64::from(b - 21),
     }
-    (b - 21) as u64
 }
 
 // The byte of a symbol.
 fn symbol_byte(d: u64) -> u8
     ensures { result ≡ byte_of d }
 {
-    if d == 0 {
-        return 0;
+    match d {
+        1..=26 => (d + 96) as u8,
+        27..=36 => (d + 21) as u8,
+        _ => 0,
     }
-    if d <= 26 {
-        return (d + 96) as u8;
-    }
-    if d <= 36 {
-        return (d + 21) as u8;
-    }
-    0
 }
 
 // The first `n` bytes of `s`, its longest run of name bytes, packed: from the last one backwards, so that the first is the lowest.
@@ -122,9 +95,7 @@ fn pack(s: &[u8], n: usize) -> u64
     ensures { result ≡ packed (take n s.now) }
 {
     let mut w = 0;
-    let mut i = n;
-    while 0 < i {
-        i -= 1;
+    for i in (0..n).rev() {
         w = symbol_of(s[i]) + BASE * w;
     }
     w
@@ -134,46 +105,27 @@ fn pack(s: &[u8], n: usize) -> u64
 fn is_reserved(w: u64) -> bool
     ensures { result ≡ is_in w (map packed reserved) }
 {
-    if w == ON {
-        return true;
-    }
-    if w == IF {
-        return true;
-    }
-    if w == OR {
-        return true;
-    }
-    if w == AND {
-        return true;
-    }
-    if w == NOT {
-        return true;
-    }
-    if w == END {
-        return true;
-    }
-    false
+    [ON, IF, OR, AND, NOT, END].contains(&w)
 }
 
 // The name at the start of `s`.
-pub fn name_piece(s: &[u8]) -> NamePiece
-    ensures { result ≡ as_name (name 0 s.now) }
+pub fn name_piece(s: &[u8]) -> Result<Taken<Name>, Fault>
+    ensures { result ≡ as_name s.now (name 0 s.now) }
 {
-    if s.len() == 0 {
-        return NamePiece::Refused(reply::LINE);
+    let first = s.first().ok_or(Fault::Line)?;
+    if !is_letter(*first) {
+        return Err(Fault::Name);
     }
-    if !is_letter(s[0]) {
-        return NamePiece::Refused(reply::NAME);
+    let bytes = name_run(s);
+    if limits::NAME_BYTES < bytes {
+        return Err(Fault::Name);
     }
-    let n = name_run(s);
-    if limits::NAME_BYTES < n {
-        return NamePiece::Refused(reply::NAME);
+    let word = pack(s, bytes);
+    if is_reserved(word) {
+        return Err(Fault::Name);
     }
-    let w = pack(s, n);
-    if is_reserved(w) {
-        return NamePiece::Refused(reply::NAME);
-    }
-    NamePiece::Name(Name { word: w }, n)
+    let value = Name { word };
+    Ok(Taken { value, bytes })
 }
 
 // No name, as it is kept.
@@ -224,104 +176,63 @@ pub fn part(names: &[u64], from: usize, n: usize) -> &[u64]
 }
 
 // The first place of `w` in `names` from `from` up to `to`, counted from `from`.
-pub fn find(names: &[u64], from: usize, to: usize, w: Name) -> Found
+pub fn find(names: &[u64], from: usize, to: usize, w: Name) -> Option<usize>
     ensures { result ≡ found_in w (take (to - from) (drop from (kept_in names.now))) }
 {
-    let mut i = from;
-    while i < to {
-        if names.len() <= i {
-            return Found::Nothing;
-        }
+    for i in from..to.min(names.len()) {
         if names[i] == w.word {
-            return Found::At(i - from);
+            return Some(i - from);
         }
-        i += 1;
     }
-    Found::Nothing
+    None
 }
 
 // The name at the start of `s`, as its place in the table `names` from `from` up to `to`.
-pub fn known_name(s: &[u8], names: &[u64], from: usize, to: usize) -> Known
+pub fn known_name(s: &[u8], names: &[u64], from: usize, to: usize) -> Result<Taken<usize>, Fault>
     ensures { result ≡ as_known s.now (known (take (to - from) (drop from (names_in names.now))) 0 s.now) }
 {
-    let p = name_piece(s);
-    match p {
-        NamePiece::Refused(k) => Known::Refused(k),
-        NamePiece::Name(w, n) => {
-            let f = find(names, from, to, w);
-            let Found::At(i) = f else {
-                return Known::Refused(reply::NAME);
-            };
-            Known::At(i, n)
-        }
-    }
+    let name = name_piece(s)?;
+    let value = find(names, from, to, name.value).ok_or(Fault::Name)?;
+    Ok(Taken {
+        value,
+        bytes: name.bytes,
+    })
 }
 
 // The name at the start of `s`, where it is none of the first `n` of the table.
-pub fn new_name(s: &[u8], names: &[u64], n: usize) -> NamePiece
-    ensures { result ≡ as_name (new_name (take n (names_in names.now)) 0 s.now) }
+pub fn new_name(s: &[u8], names: &[u64], n: usize) -> Result<Taken<Name>, Fault>
+    ensures { result ≡ as_name s.now (new_name (take n (names_in names.now)) 0 s.now) }
 {
-    let p = name_piece(s);
-    let NamePiece::Name(w, k) = p else {
-        return p;
-    };
-    let f = find(names, 0, n, w);
-    let Found::Nothing = f else {
-        return NamePiece::Refused(reply::NAME);
-    };
-    NamePiece::Name(w, k)
+    let name = name_piece(s)?;
+    if find(names, 0, n, name.value).is_some() {
+        return Err(Fault::Name);
+    }
+    Ok(name)
 }
 
 // The name at the start of `s`, where the name `due` must stand.
-pub fn due_name(s: &[u8], due: Name) -> Bytes
-    ensures { result ≡ as_bytes s.now (due_name (name_of due) 0 s.now) }
+pub fn due_name(s: &[u8], due: Name) -> Result<usize, Fault>
+    ensures { result ≡ as_length s.now (due_name (name_of due) 0 s.now) }
 {
-    let p = name_piece(s);
-    match p {
-        NamePiece::Refused(k) => Bytes::Refused(k),
-        NamePiece::Name(w, n) => {
-            if w.word != due.word {
-                return Bytes::Refused(reply::NAME);
-            }
-            Bytes::Read(n)
-        }
+    let name = name_piece(s)?;
+    if name.value != due {
+        return Err(Fault::Name);
     }
-}
-
-// The number of a refused name, and 0 where one stands.
-pub fn name_fault(p: NamePiece) -> u8
-    ensures { result ≡ name_fault p }
-{
-    match p {
-        NamePiece::Name(_, _) => 0,
-        NamePiece::Refused(k) => k,
-    }
-}
-
-// The number of a name that is not known, and 0 where one is.
-pub fn known_fault(p: Known) -> u8
-    ensures { result ≡ known_fault p }
-{
-    match p {
-        Known::At(_, _) => 0,
-        Known::Refused(k) => k,
-    }
+    Ok(name.bytes)
 }
 
 // How many bytes a kept name has.
 pub fn name_len(w: Name) -> usize
     ensures { (result ≡ length (name_of w)) × (result ≤ spell_room) }
 {
-    let mut n = 0;
     let mut v = w.word;
-    while n < PLACES {
+    for n in 0..PLACES {
         if v == 0 {
             return n;
         }
-        v = v / BASE;
-        n += 1;
+        v /= BASE;
     }
-    n
+    PLACES
 }
 
 // Puts the bytes of a kept name at a place of `out`, and tells the place behind them.
@@ -330,16 +241,14 @@ pub fn spell(out: &mut [u8], at: usize, w: Name) -> usize
     ensures { Wrote at (name_of w) out.old out.new result }
 {
     let mut to = at;
-    let mut n = 0;
     let mut v = w.word;
-    while n < PLACES {
+    for _n in 0..PLACES {
         if v == 0 {
             return to;
         }
         out[to] = symbol_byte(v % BASE);
         to += 1;
-        v = v / BASE;
-        n += 1;
+        v /= BASE;
     }
     to
 }

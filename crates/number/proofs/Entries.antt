@@ -1,48 +1,49 @@
 -- Values, from the answer on the number, in the form in which `entry_piece` needs them.
 use mathlib.Core.Path.{◌≡◌, refl, sym, ◌∙◌, ap}
+use mathlib.Core.Bool.{Bool, true, false, false≢true}
 use mathlib.Core.List.{List, [], ◌∷◌}
-use Prim.Native.Nat.{ℕ, ◌+◌}
+use Prim.Native.Nat.{ℕ, suc, ◌+◌, ◌-◌}
 use native.Mathlib.Omega.{arith}
 use native.Mathlib.Numerals.{add-one}
-use borrow.Author.Tests.{ne_eqb}
 use mir.Val.{Fits}
 use mir.Syntax.{w64}
-use lib.ListN.{length, drop, get_or}
-use lib.Seq.{drop-cons, length-take-le}
-use Rattle.meaning.specs.Refusal.{LINE}
-use Rattle.meaning.specs.Text.{begins}
+use lib.ListN.{length}
+use Rattle.meaning.specs.Text.{text, begins}
 use Rattle.meaning.specs.Reading.{not_ended, stands, after, give}
 use Rattle.meaning.specs.Number.{number, entry, number_at}
-use Rattle.theory.specs.Reading.Told.{not_ended_none}
+use Rattle.theory.specs.Reading.Told.{took}
 use Rattle.number.specs.Answers.{as_number, as_entry}
-use Rattle.number.specs.declared.NumberPiece.{NumberPiece}
-use Rattle.number.specs.declared.NumberPiece.TheVariants as N
-use Rattle.number.specs.declared.EntryPiece.TheVariants as E
+use Rattle.std.specs.Prelude.{Result, Ok, Err}
+use Rattle.reply.specs.declared.Fault.{Fault}
+use Rattle.reply.specs.Faults.{fault_of}
+use Rattle.text.specs.declared.Taken.{Taken}
 use Rattle.number.proofs.Callers.{number_wrong, number_got, number_fits, number_small}
 
-pub entry_ended : (s : List ℕ) → length s ≡ 0 → E.Refused LINE ≡ as_entry (entry 0 s)
-unfolding entry
-entry_ended s h = sym (rw (not_ended_none 0 s h))
-
-pub entry_missing : (s : List ℕ) → (length s ≡ 0 → ⊥) → get_or s 0 0 ≡ 63 → E.Entry 0 1 ≡ as_entry (entry 0 s)
+pub entry_missing : (s : List ℕ) (b : Bool) → b ≡ begins (text "?") s → b ≡ true → Ok (record { value = 0; bytes = 1 }) ≡ as_entry s (entry 0 s)
 unfolding entry not_ended stands begins
-entry_missing s h e = ap (λ u. as_entry (entry 0 u)) (sym (drop-cons s 0 0 (omega arith) ∙ ap (λ x. x ∷ drop 1 s) e))
+entry_missing [] b is t = absurd (false≢true (sym is ∙ t))
+entry_missing (x ∷ s) b is t =
+    let z : suc (length s) - length s ≡ 1 = omega arith in
+    rw (sym is ∙ t, z)
 
-entry_is : (s : List ℕ) → (length s ≡ 0 → ⊥) → (get_or s 0 0 ≡ 63 → ⊥)
+entry_is : (s : List ℕ) → begins (text "?") s ≡ false
     → entry 0 s ≡ after (number 0 s) (λ n. give (record { shown = n.shown; value = number_at n.at }))
-unfolding entry not_ended stands begins
-entry_is [] h o = absurd (h refl)
-entry_is (x ∷ s) h o = rw (ne_eqb x 63 o, begins)
+unfolding entry number not_ended stands
+entry_is [] h = refl
+entry_is (x ∷ s) h = rw h
 
-module _ (s : List ℕ) (p : NumberPiece) (is : p ≡ as_number (number 0 s)) where
-  pub entry_room : (v n : ℕ) → p ≡ N.Number v n → (w : ℕ) → w ≡ v + 1 → Fits w64 w
-  entry_room v n q w e = omega (arith, number_small s p is v n q)
+module _ (s : List ℕ) (p : Result (Taken ℕ) Fault) (is : p ≡ as_number s (number 0 s)) where
+  pub entry_room : (v : Taken ℕ) → p ≡ Ok v → (w : ℕ) → w ≡ v.value + 1 → Fits w64 w
+  entry_room v q w e = omega (arith, number_small s p is v q)
 
-  module _ (begun : length s ≡ 0 → ⊥) (other : get_or s 0 0 ≡ 63 → ⊥) where
-    pub entry_refused : (k : ℕ) → p ≡ N.Refused k → E.Refused k ≡ as_entry (entry 0 s)
-    entry_refused k q = sym (rw (entry_is s begun other, number_wrong s p is k q 0))
+  module _ (b : Bool) (other : b ≡ begins (text "?") s) (f : b ≡ false) where
+    pub entry_refused : (e : Fault) → p ≡ Err e → Err e ≡ as_entry s (entry 0 s)
+    entry_refused e q =
+        let h = number_wrong s p is e q in
+        let y : ◌≡◌ {A = Result (Taken ℕ) Fault} (Err e) (Err (fault_of h.number)) = ap (λ f. Err f) h.is in
+        y ∙ sym (rw (entry_is s (sym other ∙ f), h.reads 0))
 
-    pub entry_read : (v n : ℕ) → p ≡ N.Number v n → (w : ℕ) → w ≡ v + 1 → E.Entry w n ≡ as_entry (entry 0 s)
-    entry_read v n q w e = sym (rw (entry_is s begun other, number_got s p is v n q 0, length-take-le n s (number_fits s p is v n q), e, add-one))
+    pub entry_read : (v : Taken ℕ) → p ≡ Ok v → Ok (record { value = v.value + 1; bytes = v.bytes }) ≡ as_entry s (entry 0 s)
+    entry_read v q = sym (rw (entry_is s (sym other ∙ f), number_got s p is v q 0, took s v.bytes (number_fits s p is v q), add-one))
 
-pub ruleset entering = (entry_ended, entry_missing, entry_room, entry_refused, entry_read)
+pub ruleset entering = (entry_missing, entry_room, entry_refused, entry_read)

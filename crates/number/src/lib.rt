@@ -1,7 +1,7 @@
 // Numbers and values. A number is told by its place on the scale: the number and 1000000000 more. A value is 0 for `?`, and otherwise its place and 1 more.
 #![tactic(auto)]
 
-ghost use Rattle.std.specs.Prelude.{◌≡◌, ◌+◌, ◌<◌, eqb};
+ghost use Rattle.std.specs.Prelude.{◌≡◌, ◌+◌, eqb};
 ghost use Rattle.meaning.specs.Reading.{closed};
 ghost use Rattle.meaning.specs.Name.{digit};
 ghost use Rattle.meaning.specs.Limits.{middle};
@@ -9,45 +9,13 @@ ghost use Rattle.meaning.specs.Number.{number, entry, end_line};
 ghost use Rattle.number.specs.Answers.{as_number, as_entry, as_end};
 ghost use Rattle.number.specs.Digits.{needless_zero, amount_run, digits_run};
 
-// A number: its place, and how many bytes it took; or the refusal's number.
-#[derive(Clone, Copy)]
-pub enum NumberPiece {
-    Number(u64, usize),
-    Refused(u8),
-}
-
-// A number or `?`: the value, and how many bytes it took; or the refusal's number.
-#[derive(Clone, Copy)]
-pub enum EntryPiece {
-    Entry(u64, usize),
-    Refused(u8),
-}
-
-// The last line: read, or the refusal's number and whether it is told of the line behind.
-#[derive(Clone, Copy)]
-pub enum End {
-    Done,
-    Refused(u8, usize),
-}
-
-// A run of digits: its value and its length, where it stands for one in the range.
-#[derive(Clone, Copy)]
-enum Digits {
-    Good(u64, usize),
-    Wrong,
-}
+use reply::{Fault, Wrong};
+use text::Taken;
 
 fn is_digit(b: u8) -> bool
     ensures { result ≡ digit b }
 {
-    b'0' <= b && b <= b'9'
-}
-
-// The byte, where a sum is to be made with it.
-fn wide(b: u8) -> u64
-    ensures { (result ≡ b) × (result < 256) }
-{
-    b as u64
+    b.is_ascii_digit()
 }
 
 // Whether `s` starts with a zero and another digit behind it.
@@ -63,80 +31,76 @@ fn needless(s: &[u8]) -> bool
     is_digit(s[1])
 }
 
-// The value of the longest run of digits. It is left as soon as the value is over the range, so no run is too long for it.
-fn amount_run(s: &[u8]) -> Digits
+// The longest run of digits: its value and its length. It is left as soon as the value is over the range, so no run is too long for it.
+fn amount_run(s: &[u8]) -> Option<Taken<u64>>
     ensures { result ≡ amount_run s.now }
 {
-    let mut v: u64 = 0;
-    let mut i = 0;
-    while i < s.len() {
-        let b = s[i];
-        if !is_digit(b) {
-            return Digits::Good(v, i);
+    let mut value: u64 = 0;
+    for (i, b) in s.iter().enumerate() {
+        if !is_digit(*b) {
+            return Some(Taken { value, bytes: i });
         }
-        v = v * 10 + (wide(b) - 48);
-        if limits::MIDDLE < v {
-            return Digits::Wrong;
+        value = value * 10 + u64::from(*b - b'0');
+        if limits::MIDDLE < value {
+            return None;
         }
-        i += 1;
     }
-    Digits::Good(v, i)
+    Some(Taken {
+        value,
+        bytes: s.len(),
+    })
 }
 
 // The longest run of digits at the start of `s`, where it has at least one and no needless zero.
-fn digits_run(s: &[u8]) -> Digits
+fn digits_run(s: &[u8]) -> Option<Taken<u64>>
     ensures { result ≡ digits_run s.now }
 {
     if needless(s) {
-        return Digits::Wrong;
+        return None;
     }
-    let d = amount_run(s);
-    let Digits::Good(v, n) = d else {
-        return Digits::Wrong;
-    };
-    if n == 0 {
-        return Digits::Wrong;
+    let run = amount_run(s)?;
+    if run.bytes == 0 {
+        return None;
     }
-    Digits::Good(v, n)
+    Some(run)
 }
 
-// The number at the start of `s`, and how many bytes it took.
-pub fn number_piece(s: &[u8]) -> NumberPiece
-    ensures { result ≡ as_number (number 0 s.now) }
+// The number at the start of `s`: its place, and how many bytes it took.
+pub fn number_piece(s: &[u8]) -> Result<Taken<u64>, Fault>
+    ensures { result ≡ as_number s.now (number 0 s.now) }
 {
     if s.len() == 0 {
-        return NumberPiece::Refused(reply::LINE);
+        return Err(Fault::Line);
     }
     if s[0] == b'-' {
-        let Digits::Good(v, n) = digits_run(&s[1..]) else {
-            return NumberPiece::Refused(reply::NUMBER);
-        };
-        if v == 0 {
-            return NumberPiece::Refused(reply::NUMBER);
+        let run = digits_run(&s[1..]).ok_or(Fault::Number)?;
+        if run.value == 0 {
+            return Err(Fault::Number);
         }
-        return NumberPiece::Number(limits::MIDDLE - v, n + 1);
+        return Ok(Taken {
+            value: limits::MIDDLE - run.value,
+            bytes: run.bytes + 1,
+        });
     }
-    let Digits::Good(v, n) = digits_run(s) else {
-        return NumberPiece::Refused(reply::NUMBER);
-    };
-    NumberPiece::Number(limits::MIDDLE + v, n)
+    let run = digits_run(s).ok_or(Fault::Number)?;
+    Ok(Taken {
+        value: limits::MIDDLE + run.value,
+        bytes: run.bytes,
+    })
 }
 
 // The value at the start of `s`: a number or `?`.
-pub fn entry_piece(s: &[u8]) -> EntryPiece
-    ensures { result ≡ as_entry (entry 0 s.now) }
+pub fn entry_piece(s: &[u8]) -> Result<Taken<u64>, Fault>
+    ensures { result ≡ as_entry s.now (entry 0 s.now) }
 {
-    if s.len() == 0 {
-        return EntryPiece::Refused(reply::LINE);
+    if text::starts(s, b"?") {
+        return Ok(Taken { value: 0, bytes: 1 });
     }
-    if s[0] == b'?' {
-        return EntryPiece::Entry(0, 1);
-    }
-    let p = number_piece(s);
-    match p {
-        NumberPiece::Refused(k) => EntryPiece::Refused(k),
-        NumberPiece::Number(v, n) => EntryPiece::Entry(v + 1, n),
-    }
+    let number = number_piece(s)?;
+    Ok(Taken {
+        value: number.value + 1,
+        bytes: number.bytes,
+    })
 }
 
 // Whether the number at the place `v` is the count. No sum is made, which a large count would not fit.
@@ -149,35 +113,42 @@ fn is_count(v: u64, count: usize) -> bool
     v - limits::MIDDLE == count as u64
 }
 
-// The end of a paper: the LF of its last line, and nothing more.
-pub fn closing(s: &[u8]) -> End
+// The end of a paper: the LF of its last line, and nothing more. A fault of that line is told of line 0, and bytes behind it of line 1.
+pub fn closing(s: &[u8]) -> Result<(), Wrong>
     ensures { result ≡ as_end (closed 0 s.now) }
 {
     if !text::starts(s, b"\n") {
-        return End::Refused(reply::LINE, 0);
+        return Err(Wrong {
+            fault: Fault::Line,
+            line: 0,
+        });
     }
     if s.len() != 1 {
-        return End::Refused(reply::LINE, 1);
+        return Err(Wrong {
+            fault: Fault::Line,
+            line: 1,
+        });
     }
-    End::Done
+    Ok(())
 }
 
-// The last line, `end=` with the count, behind which nothing stands.
-pub fn end_line(s: &[u8], count: usize) -> End
+// The last line, `end=` with the count, behind which nothing stands, likewise.
+pub fn end_line(s: &[u8], count: usize) -> Result<(), Wrong>
     ensures { result ≡ as_end (end_line count 0 s.now) }
 {
     if !text::starts(s, b"end=") {
-        return End::Refused(reply::LINE, 0);
+        return Err(Wrong {
+            fault: Fault::Line,
+            line: 0,
+        });
     }
     let told = text::rest(s, 4);
-    let p = number_piece(told);
-    match p {
-        NumberPiece::Refused(k) => End::Refused(k, 0),
-        NumberPiece::Number(v, n) => {
-            if !is_count(v, count) {
-                return End::Refused(reply::LINE, 0);
-            }
-            closing(text::rest(told, n))
-        }
+    let number = number_piece(told).map_err(|fault| Wrong { fault, line: 0 })?;
+    if !is_count(number.value, count) {
+        return Err(Wrong {
+            fault: Fault::Line,
+            line: 0,
+        });
     }
+    closing(text::rest(told, number.bytes))
 }

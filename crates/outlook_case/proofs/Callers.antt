@@ -9,6 +9,7 @@ use native.Mathlib.Omega.{arith}
 use lib.Dec.{leb, ltb}
 use lib.ListN.{length, length-map, get_or, take, drop, replicate}
 use lib.Seq.{take_at, length-take-le}
+use Rattle.std.specs.Prelude as Std
 use Rattle.meaning.specs.Text.{In, from}
 use Rattle.meaning.specs.Refusal.{Answer, taken, refused, on_taken, ROOM, MANY}
 use Rattle.meaning.specs.Limits.{part_limit, highest, field_limit}
@@ -49,8 +50,6 @@ use Rattle.outlook_parts.proofs.Callers.{tried_lists, tried_many}
 use Rattle.step_sheet.specs.declared.Accepted.{Accepted}
 use Rattle.step_sheet.specs.Answers.{taken_sheet}
 use Rattle.step_sheet.proofs.Sheets.{accepted_fits, accepted_words, accepted_nodes}
-use Rattle.outlook_case.specs.declared.Listed.{Listed}
-use Rattle.outlook_case.specs.declared.Listed.TheVariants.{Patterns, Many}
 use Rattle.outlook_case.proofs.Laws.{list_few, exceeds_told, within_told, ps_are, outlook_fits}
 use Rattle.outlook_case.specs.Patterns.{
   pattern_of,
@@ -276,12 +275,12 @@ answer_few a m ps = go (ltb part_limit (size (tried_of a m))) refl
     go true e is = absurd (refused_taken MANY 0 0 ps is)
     go false e is = rw (taken_same (list_of a m) ps is) at (list_few a m e)
 
-module _ (a : Accepted) (m : Moment) (l : Listed) (told : l ≡ as_listed a m) where
-  pub listed_many : l ≡ Many → answer_of a m ≡ refused MANY 0 0
+module _ (a : Accepted) (m : Moment) (l : Std.Option ℕ) (told : l ≡ as_listed a m) where
+  pub listed_many : l ≡ Std.None → answer_of a m ≡ refused MANY 0 0
   unfolding answer_of
   listed_many z = rw (exceeds_told a m l told z)
 
-  module _ (n : ℕ) (z : l ≡ Patterns n) (was ps : List ℕ) (space : ps ≡ list_space a m was) where
+  module _ (n : ℕ) (z : l ≡ Std.Some n) (was ps : List ℕ) (space : ps ≡ list_space a m was) where
     pub listed_part : n ≤ length ps
     listed_part = outlook_fits a m l told n z was was ps space
 

@@ -8,6 +8,7 @@ use borrow.Author.Tests.{lt-ltb, le-ltb, ltb-false, le-leb, lt-leb}
 use lib.Dec.{ltb}
 use lib.ListN.{length, length-map, length-append, length-drop, take, drop}
 use lib.Seq.{take_at}
+use Rattle.std.specs.Prelude.{Option, Some, None}
 use Rattle.meaning.specs.Text.{from}
 use Rattle.meaning.specs.Refusal.{ROOM, MANY}
 use Rattle.meaning.specs.Step.{pattern}
@@ -29,8 +30,6 @@ use Rattle.step_sheet.specs.declared.Accepted.{Accepted}
 use Rattle.reply.specs.declared.Reply.{Reply}
 use Rattle.reply.specs.Answers.{refused_reply}
 use Rattle.outlook_case.specs.Patterns.{Fixed, fixed, pattern_of, pattern_at, patterns_from, fixed_of, tried_of, list_of, as_listed, list_space, reply_for, space_for}
-use Rattle.outlook_case.specs.declared.Listed.{Listed}
-use Rattle.outlook_case.specs.declared.Listed.TheVariants.{Patterns, Many}
 
 -- ONE CHOICE
 
@@ -112,17 +111,17 @@ module _ (a : Accepted) (m : Moment) where
   abbrev lists : List (List ℕ)
   lists = tried_from (take a.top a.words) a.heads.fields 0 m.values
 
-  module _ {count : ℕ} {flat_was flat lens_was lens : List ℕ}
-      (filled : Filled (tried_from (take a.top a.words) a.heads.fields 0 m.values) count flat_was flat lens_was lens)
+  module _ {r : Option ℕ} {flat_was flat lens_was lens : List ℕ}
+      (filled : Filled (tried_from (take a.top a.words) a.heads.fields 0 m.values) r flat_was flat lens_was lens)
       (v16 : length m.values ≡ field_limit) (l16 : length lens_was ≡ field_limit) where
     -- too many
-    module _ (none : count ≡ 0) where
+    module _ (none : r ≡ None) where
       exceeds : ltb part_limit (size (tried_of a m)) ≡ true
       unfolding tried_of
       exceeds = lt-ltb part_limit (size lists) (fill_many (take a.top a.words) a.heads.fields
-          m.values count flat_was flat lens_was lens v16 l16 filled none)
+          m.values r flat_was flat lens_was lens v16 l16 filled none)
 
-      pub list_many : Many ≡ as_listed a m
+      pub list_many : None ≡ as_listed a m
       unfolding as_listed
       list_many = sym (rw exceeds)
 
@@ -131,18 +130,18 @@ module _ (a : Accepted) (m : Moment) where
       list_untouched was = sym (rw exceeds)
 
     -- what a choice is taken from
-    module _ (some : count ≡ 0 → ⊥) where
+    module _ (count : ℕ) (some : r ≡ Some count) where
       few : (count ≡ size lists) × (size lists ≤ part_limit)
-      few = fill_few (take a.top a.words) a.heads.fields m.values count flat_was flat lens_was lens v16 l16 filled some
+      few = fill_few (take a.top a.words) a.heads.fields m.values r flat_was flat lens_was lens v16 l16 filled count some
 
       pub list_room_lem : (ps : List ℕ) → length ps ≡ part_limit → count ≤ length ps
       list_room_lem ps l = omega (arith, few.0, few.1)
 
       pub list_product : count ≡ product lens
-      list_product = fill_product (take a.top a.words) a.heads.fields m.values count flat_was flat lens_was lens v16 l16 filled some
+      list_product = fill_product (take a.top a.words) a.heads.fields m.values r flat_was flat lens_was lens v16 l16 filled count some
 
       pub list_sum : sum lens ≤ length flat
-      list_sum = fill_room (take a.top a.words) a.heads.fields m.values count flat_was flat lens_was lens v16 l16 filled some
+      list_sum = fill_room (take a.top a.words) a.heads.fields m.values r flat_was flat lens_was lens v16 l16 filled count some
 
       within : ltb part_limit (size (tried_of a m)) ≡ false
       unfolding tried_of
@@ -152,10 +151,10 @@ module _ (a : Accepted) (m : Moment) where
         list_is : Front (list_of a m) n was now
         unfolding list_of tried_of
         list_is =
-            let rs = fill_lists (take a.top a.words) a.heads.fields m.values count flat_was flat lens_was lens v16 l16 filled some in
+            let rs = fill_lists (take a.top a.words) a.heads.fields m.values r flat_was flat lens_was lens v16 l16 filled count some in
             subst (λ l. Front l n was now) (rw (rs, few.0)) front
 
-        pub list_all : Patterns n ≡ as_listed a m
+        pub list_all : Some n ≡ as_listed a m
         unfolding as_listed
         list_all = rw (within, list_is.count)
 
@@ -183,24 +182,24 @@ pub ruleset filling = (list_many, list_untouched, list_room_lem, list_product, l
 
 -- THE ANSWER
 
-module _ (a : Accepted) (m : Moment) (l : Listed) (told : l ≡ as_listed a m) where
-  pub exceeds_told : l ≡ Many → ltb part_limit (size (tried_of a m)) ≡ true
+module _ (a : Accepted) (m : Moment) (l : Option ℕ) (told : l ≡ as_listed a m) where
+  pub exceeds_told : l ≡ None → ltb part_limit (size (tried_of a m)) ≡ true
   unfolding as_listed
   exceeds_told z = go (ltb part_limit (size (tried_of a m))) refl
     where
       go : (b : Bool) → ltb part_limit (size (tried_of a m)) ≡ b → ltb part_limit (size (tried_of a m)) ≡ true
       go true e = e
-      go false e = let y : Many ≡ Patterns (length (list_of a m)) = sym z ∙ told ∙ rw e in let n : ◌≡◌ {A = ℕ} 0 1 = cc in absurd (omega arith)
+      go false e = let y : None ≡ Some (length (list_of a m)) = sym z ∙ told ∙ rw e in let n : ◌≡◌ {A = ℕ} 0 1 = cc in absurd (omega arith)
 
-  pub within_told : (n : ℕ) → l ≡ Patterns n → (ltb part_limit (size (tried_of a m)) ≡ false) × (n ≡ length (list_of a m))
+  pub within_told : (n : ℕ) → l ≡ Some n → (ltb part_limit (size (tried_of a m)) ≡ false) × (n ≡ length (list_of a m))
   unfolding as_listed
   within_told n z = go (ltb part_limit (size (tried_of a m))) refl
     where
       go : (b : Bool) → ltb part_limit (size (tried_of a m)) ≡ b → (ltb part_limit (size (tried_of a m)) ≡ false) × (n ≡ length (list_of a m))
-      go true e = let y : Patterns n ≡ Many = sym z ∙ told ∙ rw e in let n : ◌≡◌ {A = ℕ} 0 1 = cc in absurd (omega arith)
-      go false e = let y : Patterns n ≡ Patterns (length (list_of a m)) = sym z ∙ told ∙ rw e in let m : n ≡ length (list_of a m) = cc in (e, m)
+      go true e = let y : Some n ≡ None = sym z ∙ told ∙ rw e in let n : ◌≡◌ {A = ℕ} 0 1 = cc in absurd (omega arith)
+      go false e = let y : Some n ≡ Some (length (list_of a m)) = sym z ∙ told ∙ rw e in let m : n ≡ length (list_of a m) = cc in (e, m)
 
-  module _ (z : l ≡ Many) (lent : List ℕ) where
+  module _ (z : l ≡ None) (lent : List ℕ) where
     pub outlook_many : (r : Reply) → r ≡ refused_reply MANY 0 0 → r ≡ reply_for a m (length lent)
     unfolding reply_for
     outlook_many r e = e ∙ sym (rw (exceeds_told z))
@@ -209,7 +208,7 @@ module _ (a : Accepted) (m : Moment) (l : Listed) (told : l ≡ as_listed a m) w
     unfolding space_for
     outlook_many_space = sym (rw (exceeds_told z))
 
-  module _ (n : ℕ) (z : l ≡ Patterns n) (lent : List ℕ) where
+  module _ (n : ℕ) (z : l ≡ Some n) (lent : List ℕ) where
     pub outlook_room : length lent < n → (r : Reply) → r ≡ refused_reply ROOM 0 0 → r ≡ reply_for a m (length lent)
     unfolding reply_for
     outlook_room h r e = e ∙ sym (rw ((within_told n z).0, lt-leb (length (list_of a m)) (length lent) (omega (arith, (within_told n z).1))))

@@ -1,5 +1,5 @@
 -- The outlook of a case that was read, on its tables: the pattern of a choice, the list of all, and what is returned.
-use Rattle.std.specs.Prelude.{ℕ, ◌/◌, ◌≤◌, cond, List, ◌++◌, map, leb, ltb, length, take, drop}
+use Rattle.std.specs.Prelude.{ℕ, ◌/◌, ◌≤◌, cond, Option, Some, None, List, ◌++◌, map, leb, ltb, length, take, drop}
 use Rattle.meaning.specs.Text.{from}
 use Rattle.meaning.specs.Refusal.{Answer, taken, refused, ROOM, MANY}
 use Rattle.meaning.specs.Limits.{part_limit}
@@ -16,8 +16,6 @@ use Rattle.outlook_parts.specs.Tried.{Coded, tried_from}
 use Rattle.step_sheet.specs.declared.Accepted.{Accepted}
 use Rattle.reply.specs.declared.Reply.{Reply}
 use Rattle.reply.specs.Answers.{refused_reply}
-use Rattle.outlook_case.specs.declared.Listed.{Listed}
-use Rattle.outlook_case.specs.declared.Listed.TheVariants.{Patterns, Many}
 
 -- the pattern of the step at a moment; two nodes for each status
 unfoldable pub pattern_of : List ℕ → Plan → Moment → ℕ
@@ -58,9 +56,9 @@ module _ (a : Accepted) (m : Moment) where
   unfoldable pub answer_of : Answer (List ℕ)
   answer_of = cond (ltb part_limit (size tried_of)) (refused MANY 0 0) (taken list_of)
 
-  -- how many patterns there are, or MANY
-  unfoldable pub as_listed : Listed
-  as_listed = cond (ltb part_limit (size tried_of)) Many (Patterns (length list_of))
+  -- how many patterns there are; none is told where the answer is MANY
+  unfoldable pub as_listed : Option ℕ
+  as_listed = cond (ltb part_limit (size tried_of)) None (Some (length list_of))
 
   -- the list in an array of its own
   unfoldable pub list_space : List ℕ → List ℕ

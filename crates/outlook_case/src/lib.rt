@@ -25,8 +25,7 @@ fn pattern_with(plan: Plan, words: &[u64], moment: Moment, values: Values) -> u3
         values,
         before,
     };
-    let after = step_run::run_step(plan, words, chosen);
-    let marks = after.marks;
+    let marks = step_run::run_step(plan, words, chosen);
     step_moment::pattern_of(marks, plan.nodes / 2)
 }
 
@@ -47,9 +46,7 @@ fn collect(
         patterns.old patterns.new }
 {
     let mut n = 0;
-    let mut x = count;
-    while 0 < x {
-        x -= 1;
+    for x in (0..count).rev() {
         let values = outlook_combos::combo(x, count, lens, flat);
         let p = pattern_with(plan, words, moment, values);
         n = sets::insert(patterns, n, p);
@@ -57,22 +54,19 @@ fn collect(
     n
 }
 
-// How many patterns there are, or that the parts are too many.
-#[derive(Clone, Copy)]
-pub enum Listed {
-    Patterns(usize),
-    Many,
-}
-
-// The list of a sheet at a moment, in the front of an array that has room for every list; nothing where the parts are too many.
-pub fn list_case(sheet: Accepted, moment: Moment, patterns: &mut [u32; limits::PARTS]) -> Listed
+// The list of a sheet at a moment, in the front of an array that has room for every list, and how many patterns it has; nothing where the parts are too many.
+pub fn list_case(
+    sheet: Accepted,
+    moment: Moment,
+    patterns: &mut [u32; limits::PARTS],
+) -> Option<usize>
     requires { Ready sheet moment }
     ensures answer { result ≡ as_listed sheet moment }
     ensures space { patterns.new ≡ list_space sheet moment patterns.old }
 {
     let mut flat = [0u32; outlook_parts::ROOM];
     let mut lens = [0usize; limits::FIELDS];
-    let count = outlook_parts::fill(
+    let filled = outlook_parts::fill(
         &sheet.words,
         sheet.top,
         sheet.heads.fields,
@@ -80,9 +74,7 @@ pub fn list_case(sheet: Accepted, moment: Moment, patterns: &mut [u32; limits::P
         &mut flat,
         &mut lens,
     );
-    if count == 0 {
-        return Listed::Many;
-    }
+    let count = filled?;
     let n = collect(
         sheet.plan,
         &sheet.words,
@@ -92,7 +84,7 @@ pub fn list_case(sheet: Accepted, moment: Moment, patterns: &mut [u32; limits::P
         &flat,
         patterns,
     );
-    Listed::Patterns(n)
+    Some(n)
 }
 
 // The outlook of a sheet at a moment: the list at the start of `out`, and its length; MANY, or ROOM where it does not fit.
@@ -103,7 +95,7 @@ pub fn outlook_case(sheet: Accepted, moment: Moment, out: &mut [u32]) -> Reply
 {
     let mut patterns = [0u32; limits::PARTS];
     let listed = list_case(sheet, moment, &mut patterns);
-    let Listed::Patterns(count) = listed else {
+    let Some(count) = listed else {
         return reply::refusal(reply::MANY, 0, 0);
     };
     if out.len() < count {

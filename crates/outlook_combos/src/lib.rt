@@ -5,12 +5,6 @@ ghost use Rattle.std.specs.Prelude.{◌≡◌, ◌≤◌, ◌<◌, length};
 ghost use Rattle.meaning.specs.Limits.{field_limit};
 ghost use Rattle.outlook_combos.specs.Numbered.{split, sum, product, choice};
 
-fn wide(x: u32) -> u64
-    ensures { result ≡ x }
-{
-    x as u64
-}
-
 // The choice with the number x among `count`; the lists stand one after another in `flat`, and `lens` has their lengths.
 pub fn combo(x: usize, count: usize, lens: &[usize], flat: &[u32]) -> [u64; limits::FIELDS]
     requires x_lt_count { (x < count) × (count ≡ product lens.now) }
@@ -21,14 +15,12 @@ pub fn combo(x: usize, count: usize, lens: &[usize], flat: &[u32]) -> [u64; limi
     let mut rest = x;
     let mut c = count;
     let mut base = 0;
-    let mut f = 0;
-    while f < limits::FIELDS {
+    for f in 0..limits::FIELDS {
         let p = lens[f];
-        c = c / p;
-        v[f] = wide(flat[base + rest / c]);
-        rest = rest % c;
+        c /= p;
+        v[f] = u64::from(flat[base + rest / c]);
+        rest %= c;
         base += p;
-        f += 1;
     }
     v
 }

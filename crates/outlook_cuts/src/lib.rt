@@ -47,9 +47,7 @@ pub fn field_cuts(words: &[u64], top: usize, f: usize, out: &mut [u32]) -> usize
     ensures { Front (cut_codes f (take top words.now)) result out.old out.new }
 {
     let mut n = 0;
-    let mut i = top;
-    while 0 < i {
-        i -= 1;
+    for i in (0..top).rev() {
         n = add_word(out, n, words[i], f);
     }
     n

@@ -9,6 +9,8 @@ use native.Mathlib.Decide.{dec_lt}
 use lib.Dec.{ltb}
 use lib.ListN.{length, drop, replicate, length-append, length-map, drop_of_length-le}
 use borrow.Author.Tests.{lt-ltb, le-ltb}
+use Rattle.std.specs.Prelude.{Option, None, Some}
+use Rattle.std.proofs.lemmas.Option.{none-some, same_Some}
 use Rattle.meaning.specs.Number.{Value, missing, number_at}
 use Rattle.meaning.specs.Tests.{Test}
 use Rattle.meaning.specs.Step.{Moment}
@@ -91,26 +93,28 @@ until_all ws fields f p (v ∷ vs) h =
     let few : p * length r ≤ part_limit = omega (arith, mul-le-mul_left (p * length r) (tried_pos ws fields (suc f) vs), mul-one (p * length r)) in
     until_more p r rs few ∙ ap (λ l. r ∷ l) (until_all ws fields (suc f) (p * length r) vs k)
 
-module _ (ws : List ℕ) (fields : ℕ) (values : List ℕ) (r : ℕ) (flat_was flat lens_was lens : List ℕ)
+module _ (ws : List ℕ) (fields : ℕ) (values : List ℕ) (r : Option ℕ) (flat_was flat lens_was lens : List ℕ)
     (v16 : length values ≡ field_limit) (l16 : length lens_was ≡ field_limit) (s : Filled (tried_from ws fields 0 values) r flat_was flat lens_was lens) where
   abbrev lists : List (List ℕ)
   lists = tried_from ws fields 0 values
 
-  many_or_few : Dec (part_limit < size lists) → ((r ≡ 0) × (part_limit < size lists)) ⊎ ((r ≡ size lists) × (size lists ≤ part_limit))
+  many_or_few : Dec (part_limit < size lists) → ((r ≡ None) × (part_limit < size lists)) ⊎ ((r ≡ Some (size lists)) × (size lists ≤ part_limit))
   many_or_few (yes h) = inl (s.product ∙ rw (lt-ltb part_limit (size lists) h), h)
   many_or_few (no h) = inr (s.product ∙ rw (le-ltb part_limit (size lists) (omega arith)), omega arith)
 
-  -- 0 is answered exactly where the product exceeds 4,096
-  pub fill_many : r ≡ 0 → part_limit < size lists
-  fill_many e = ⊎_elim (λ w. w.1) (λ w. absurd (omega (arith, w.0, tried_pos ws fields 0 values))) (many_or_few (dec_lt part_limit (size lists)))
+  -- none is answered exactly where the product exceeds 4,096
+  pub fill_many : r ≡ None → part_limit < size lists
+  fill_many e =
+      ⊎_elim (λ w. w.1) (λ w. absurd (none-some (size lists) (sym e ∙ w.0))) (many_or_few (dec_lt part_limit (size lists)))
 
-  pub fill_few : (r ≡ 0 → ⊥) → (r ≡ size lists) × (size lists ≤ part_limit)
-  fill_few n = ⊎_elim (λ w. absurd (n w.0)) (λ w. w) (many_or_few (dec_lt part_limit (size lists)))
+  pub fill_few : (n : ℕ) → r ≡ Some n → (n ≡ size lists) × (size lists ≤ part_limit)
+  fill_few n e =
+      ⊎_elim (λ w. absurd (none-some n (sym w.0 ∙ e))) (λ w. (same_Some n (size lists) (sym e ∙ w.0), w.1)) (many_or_few (dec_lt part_limit (size lists)))
 
   -- what a choice is taken from
-  module _ (some : r ≡ 0 → ⊥) where
+  module _ (n : ℕ) (some : r ≡ Some n) where
     all_lists : until 1 lists ≡ lists
-    all_lists = until_all ws fields 0 1 values (rw (one-mul (size lists)) (fill_few some).1)
+    all_lists = until_all ws fields 0 1 values (rw (one-mul (size lists)) (fill_few n some).1)
 
     lens_is : lens ≡ map length lists
     lens_is = s.lengths
@@ -123,8 +127,8 @@ module _ (ws : List ℕ) (fields : ℕ) (values : List ℕ) (r : ℕ) (flat_was 
     pub fill_lists : split lens flat ≡ lists
     fill_lists = rw (lens_is, flat_is) (split_strung lists (drop (length (strung lists)) flat_was))
 
-    pub fill_product : r ≡ product lens
-    fill_product = (fill_few some).0 ∙ ap product (sym lens_is)
+    pub fill_product : n ≡ product lens
+    fill_product = (fill_few n some).0 ∙ ap product (sym lens_is)
 
     pub fill_room : sum lens ≤ length flat
     fill_room = rw (lens_is, flat_is) (omega (arith, strung_length lists, length-append (strung lists) (drop (length (strung lists)) flat_was)))

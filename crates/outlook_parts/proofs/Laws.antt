@@ -18,6 +18,7 @@ use Rattle.meaning.specs.Text.{joined}
 use Rattle.meaning.specs.Limits.{field_limit, part_limit}
 use Rattle.theory.specs.Lists.Members.{joined_both, joined_one}
 use Rattle.limits.specs.Sizes.{word_room}
+use Rattle.std.specs.Prelude.{Option, None, Some}
 use Rattle.sets.specs.Front.{Front}
 use Rattle.sets.proofs.Callers.{front_none, front_take, front_length, front_more, front_tail}
 use Rattle.outlook_cuts.specs.Codes.{cut_codes}
@@ -148,8 +149,8 @@ pub value_low : {values : List ℕ} → Coded values → (f : ℕ) → f < field
 value_low coded = coded.low
 
 -- what was filled, from the lists that stand there
-filled : (rs all : List (List ℕ)) (r : ℕ) (flat_was flat lens_was lens : List ℕ) (total f : ℕ) → until 1 rs ≡ all
-    → r ≡ cond (ltb part_limit (size rs)) 0 (size rs)
+filled : (rs all : List (List ℕ)) (r : Option ℕ) (flat_was flat lens_was lens : List ℕ) (total f : ℕ) → until 1 rs ≡ all
+    → r ≡ cond (ltb part_limit (size rs)) None (Some (size rs))
     → Front (strung all) total flat_was flat → f ≡ length all → lens ≡ map length all ++ drop f lens_was → Filled rs r flat_was flat lens_was lens
 filled rs all r flat_was flat lens_was lens total f e p g n l = record {
   product = p;
@@ -182,12 +183,12 @@ module _ (words : List ℕ) (top fields : ℕ) (values flat_was lens_was : List 
   }
 
   pub filling_done : length values ≡ field_limit → (flat lens : List ℕ) (total p f : ℕ) → Filling ws fields values flat_was flat lens_was lens total p f
-      → field_limit ≤ f → Filled rs p flat_was flat lens_was lens
+      → field_limit ≤ f → Filled rs (Some p) flat_was flat lens_was lens
   unfolding tried_from until product
   filling_done v16 flat lens total p f s h =
       let none : drop f values ≡ [] = drop_of_length-le values {i = f} (omega arith) in
       let size_is : size rs ≡ p = s.left ∙ rw none (mul-one p) in
-      filled rs s.done p flat_was flat lens_was lens total f (s.lists ∙ rw none (append-nil s.done)) (rw size_is (rw (le-ltb part_limit p s.most)))
+      filled rs s.done (Some p) flat_was flat lens_was lens total f (s.lists ∙ rw none (append-nil s.done)) (rw size_is (rw (le-ltb part_limit p s.most)))
       s.front s.so_many s.lengths
 
   module _ (all : top ≤ length words) (few : top ≤ word_room) (flat_wide : flat_room ≤ length flat_was) (lens16 : length lens_was ≡ field_limit)
@@ -252,12 +253,12 @@ module _ (words : List ℕ) (top fields : ℕ) (values flat_was lens_was : List 
           ∙ ap (λ k. ds ++ (k ∷ []) ++ drop (suc f) lens_was) g.count
           ∙ ap (λ z. z ++ drop (suc f) lens_was) (sym (map-append length s.done (r ∷ [])))
 
-      pub filling_many : part_limit < p * n → Filled rs 0 flat_was after lens_was (set lens f n)
+      pub filling_many : part_limit < p * n → Filled rs None flat_was after lens_was (set lens f n)
       filling_many h =
           let k : part_limit < p * length r = rw g.count at h in
           let big : part_limit < size rs =
           omega (arith, size_is, mul-le-mul_left (p * n) (tried_pos ws fields (suc f) (drop (suc f) values)), mul-one (p * n)) in
-          filled rs (s.done ++ (r ∷ [])) 0 flat_was after lens_was (set lens f n) (total + n) (suc f)
+          filled rs (s.done ++ (r ∷ [])) None flat_was after lens_was (set lens f n) (total + n) (suc f)
           (s.lists ∙ ap (λ z. s.done ++ z) (ap (until p) next ∙ until_many p r rest k))
           (rw (lt-ltb part_limit (size rs) big)) next_front next_long next_lengths
 

@@ -1,5 +1,5 @@
 -- The values to be tried in each field, as codes, and what is left of them in lent space.
-use Rattle.std.specs.Prelude.{ℕ, suc, ◌+◌, ◌*◌, ◌<◌, ◌≡◌, cond, ◌&&◌, List, [], ◌∷◌, ◌++◌, map, ltb, eqb, length, get_or, drop}
+use Rattle.std.specs.Prelude.{ℕ, suc, ◌+◌, ◌*◌, ◌<◌, ◌≡◌, cond, ◌&&◌, Option, None, Some, List, [], ◌∷◌, ◌++◌, map, ltb, eqb, length, get_or, drop}
 use Rattle.meaning.specs.Limits.{field_limit, part_limit}
 use Rattle.limits.specs.Sizes.{word_room}
 use Rattle.outlook_cuts.specs.Codes.{cut_codes}
@@ -33,8 +33,8 @@ unfoldable pub until : ℕ → List (List ℕ) → List (List ℕ)
 until p [] = []
 until p (r ∷ rs) = r ∷ cond (ltb part_limit (p * length r)) [] (until (p * length r) rs)
 
--- "the product of the parts", or 0 where it "exceeds 4,096"; the lists and their lengths stand in the front of lent space
-pub record Filled (rs : List (List ℕ)) (r : ℕ) (flat_was flat lens_was lens : List ℕ) : Type 0 where
-  pub product : r ≡ cond (ltb part_limit (size rs)) 0 (size rs)
+-- "the product of the parts", or none where it "exceeds 4,096"; the lists and their lengths stand in the front of lent space
+pub record Filled (rs : List (List ℕ)) (r : Option ℕ) (flat_was flat lens_was lens : List ℕ) : Type 0 where
+  pub product : r ≡ cond (ltb part_limit (size rs)) None (Some (size rs))
   pub lists : flat ≡ strung (until 1 rs) ++ drop (length (strung (until 1 rs))) flat_was
   pub lengths : lens ≡ map length (until 1 rs) ++ drop (length (until 1 rs)) lens_was

@@ -29,7 +29,7 @@ fn put_field(words: &[u64], top: usize, fields: usize, f: usize, v: u64, out: &m
     n + 1
 }
 
-// The values to be tried in each field, one field's after another's in `flat`, and how many each field has in `lens`. Answers the product, or 0 where it
+// The values to be tried in each field, one field's after another's in `flat`, and how many each field has in `lens`. Answers the product; none where it
 // exceeds the limit: there the rest is left out.
 pub fn fill(
     words: &[u64],
@@ -38,7 +38,7 @@ pub fn fill(
     values: &[u64],
     flat: &mut [u32],
     lens: &mut [usize],
-) -> usize
+) -> Option<usize>
     requires top_in_bounds { (top ≤ length words.now) × (top ≤ word_room) × (flat_room ≤ length flat.old) × (length lens.old ≡ field_limit) }
     requires values_len { (length values.now ≡ field_limit) × Coded values.now }
     ensures { Filled (tried_from (take top words.now) fields 0 values.now) result
@@ -46,16 +46,14 @@ pub fn fill(
 {
     let mut total = 0;
     let mut p: usize = 1;
-    let mut f = 0;
-    while f < limits::FIELDS {
+    for f in 0..limits::FIELDS {
         let n = put_field(words, top, fields, f, values[f], &mut flat[total..]);
         lens[f] = n;
-        p = p * n;
+        p *= n;
         if limits::PARTS < p {
-            return 0;
+            return None;
         }
         total += n;
-        f += 1;
     }
-    p
+    Some(p)
 }

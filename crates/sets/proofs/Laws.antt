@@ -149,38 +149,3 @@ module _ (a : List ℕ) (n v p : ℕ) (room : n < length a) (is : p ≡ below v 
       })
 
 pub ruleset inserting = (insert_old, insert_shifted)
-
--- COPYING
-
-copied_more : (i : ℕ) (s d : List ℕ) → i < length s → i < length d → set (take i s ++ drop i d) i (get_or s i 0) ≡ take (suc i) s ++ drop (suc i) d
-copied_more i [] d h g = absurd (omega arith)
-copied_more i (x ∷ s) [] h g = absurd (omega arith)
-copied_more zero (x ∷ s) (y ∷ d) h g = refl
-copied_more (suc i) (x ∷ s) (y ∷ d) h g = ap (λ l. x ∷ l) (copied_more i s d (omega arith) (omega arith))
-
--- so many are copied
-pub record Copying (src : List ℕ) (n : ℕ) (was dst : List ℕ) (i : ℕ) : Type 0 where
-  pub within : i ≤ n
-  pub long : length dst ≡ length was
-  pub copied : dst ≡ take i src ++ drop i was
-
-module _ (src : List ℕ) (n : ℕ) (was : List ℕ) where
-  pub copying_start : Copying src n was was 0
-  copying_start = record { within = omega arith; long = refl; copied = refl }
-
-  module _ (dst : List ℕ) (i : ℕ) (c : Copying src n was dst i) where
-    pub copying_more : n ≤ length src → n ≤ length was → i < n → (j : ℕ) → j ≡ i + 1 → Copying src n was (set dst i (get_or src i 0)) j
-    copying_more h g l j e =
-        let z : j ≡ suc i = omega arith in
-        record {
-          within = omega arith;
-          long = length-set dst i (get_or src i 0) ∙ c.long;
-          copied = ap (λ d. set d i (get_or src i 0)) c.copied ∙ rw z (copied_more i src was (omega arith) (omega arith));
-        }
-
-    pub copying_done : n ≤ i → dst ≡ take n src ++ drop n was
-    copying_done h =
-        let z : n ≡ i = omega (arith, c.within) in
-        rw z c.copied
-
-pub ruleset copying = (copying_start, copying_more, copying_done)

@@ -69,9 +69,5 @@ pub fn copy_front(src: &[u32], n: usize, dst: &mut [u32])
     requires { (n ≤ length src.now) × (n ≤ length dst.old) }
     ensures { dst.new ≡ take n src.now ++ drop n dst.old }
 {
-    let mut i = 0;
-    while i < n {
-        dst[i] = src[i];
-        i += 1;
-    }
+    dst[..n].copy_from_slice(&src[..n]);
 }

@@ -1,7 +1,6 @@
--- The fields that an event carries; the event lines; the scan of both:
-pub mod Carried
+-- The fields that an event carries, its line, then all lines:
+pub mod Pieces
+pub mod Line
 pub mod Events
-pub mod Scan
--- No second answer fits:
 -- No second answer fits:
 pub mod Only

@@ -1,168 +1,112 @@
 // The event lines of a sheet.
 #![tactic(auto)]
 
-ghost use Rattle.std.specs.Prelude.{◌≡◌, leb, take, drop};
-ghost use Rattle.meaning.specs.Text.{text, begins, is_in};
-ghost use Rattle.meaning.specs.Limits.{event_limit};
+ghost use Rattle.std.specs.Prelude.{◌≡◌, ◌+◌, ◌≤◌, suc, leb, [], take};
+ghost use Rattle.meaning.specs.Text.{text};
+ghost use Rattle.meaning.specs.Limits.{field_limit, event_limit};
 ghost use Rattle.meaning.specs.Reading.{after};
-ghost use Rattle.meaning.specs.ReadSheet.{event_lines};
+ghost use Rattle.meaning.specs.ReadSheet.{carried, event_lines};
 ghost use Rattle.theory.specs.Papers.Formed.{NoEvents};
 ghost use Rattle.name.specs.Names.{names_in};
-ghost use Rattle.sheet_section.specs.Answers.{as_heads_read, row_name, so_far};
+ghost use Rattle.sheet_section.specs.Answers.{as_above, as_row, so_far};
 ghost use Rattle.sheet_section.specs.Held.{Started};
-ghost use Rattle.sheet_events.specs.Answers.{end_of, piece_at, Scans};
+ghost use Rattle.sheet_events.specs.Answers.{as_carried, as_event, event};
 
-use name::Known;
-use sheet_section::{HeadsRead, RowName};
+use name::Name;
+use reply::{Fault, Wrong};
+use sheet_section::Above;
 use sheet_tables::Heads;
+use text::Taken;
 
-// The next piece of an event's line: a field that it carries, and how many bytes that took; the line's end; or the refusal's number.
+// The fields that an event carries: the first `count` of a row.
 #[derive(Clone, Copy)]
-enum Piece {
-    Field(usize, usize),
-    End,
-    Refused(u8),
-}
-
-// The first fault of a section; the number is 0 where there is none.
-#[derive(Clone, Copy)]
-struct Fault {
-    number: u8,
-    line: usize,
-}
-
-// A section that was left with a fault, or with none, and where it was left.
-#[derive(Clone, Copy)]
-struct Scanned {
-    fault: Fault,
-    at: usize,
-    heads: Heads,
-}
-
-// A byte as a number.
-fn wide(b: u8) -> usize
-    ensures { result ≡ b }
-{
-    b as usize
-}
-
-// Whether the event whose fields stand from `from` on carries the field already, among its first `n`.
-fn is_carried(carried: &[u8], from: usize, n: usize, field: usize) -> bool
-    ensures { result ≡ is_in field (take n (drop from carried.now)) }
-{
-    let row = text::rest(carried, from);
-    let mut i = 0;
-    while i < n {
-        if row.len() <= i {
-            return false;
-        }
-        if wide(row[i]) == field {
-            return true;
-        }
-        i += 1;
-    }
-    false
-}
-
-// The key and the name of an event, where there are `e` so far; the name is none of the first `n`.
-fn event_name(t: &[u8], names: &[u64], n: usize, e: usize) -> RowName
-    ensures { result ≡ row_name (text "event=") (leb event_limit e) (take n (names_in names.now)) t.now }
-{
-    sheet_section::row_name(t, b"event=", limits::EVENTS <= e, names, n)
-}
-
-// The end of an event's line, which is due where no further field stands.
-fn line_end(t: &[u8]) -> Piece
-    ensures { result ≡ end_of (begins (text "\n") t.now) }
-{
-    if !text::starts(t, b"\n") {
-        return Piece::Refused(reply::LINE);
-    }
-    Piece::End
-}
-
-// The next piece of an event's line, which stands at `at`; the first `fields` names are those of fields.
-// The event carries `count` so far, from `from` on: none twice, and never more than there are.
-fn next_piece<'a>(
-    s: &[u8],
-    at: usize,
-    names: &'a [u64],
-    fields: usize,
-    carried: &'a [u8],
-    from: usize,
+struct Carried {
+    fields: [u8; limits::FIELDS],
     count: usize,
-) -> Piece
-    ensures { result ≡ piece_at names.now fields carried.now from count (drop at s.now) }
-{
-    let t = text::rest(s, at);
-    if !text::starts(t, b" ") {
-        return line_end(t);
-    }
-    let p = name::known_name(text::rest(t, 1), names, 0, fields);
-    match p {
-        Known::Refused(k) => Piece::Refused(k),
-        Known::At(f, n) => {
-            if fields <= count {
-                return Piece::Refused(reply::NAME);
-            }
-            if is_carried(carried, from, count, f) {
-                return Piece::Refused(reply::NAME);
-            }
-            Piece::Field(f, n + 1)
-        }
-    }
 }
 
-// Line after line, and piece after piece of a line; the first fault ends the scan.
-fn scan_events(s: &[u8], before: HeadsRead) -> Scanned
-    requires { (before.number ≡ 0) × Started NoEvents s.now before }
-    ensures { Scans s.now before result }
+// An event: its name and the fields that it carries.
+#[derive(Clone, Copy)]
+struct Event {
+    name: Name,
+    carried: Carried,
+}
+
+// What ends an event's line: the fields that it carries, none of them twice, and how many bytes they and LF took. The first `fields` names are those of fields.
+fn carried_fields(t: &[u8], names: &[u64], fields: usize) -> Result<Taken<Carried>, Fault>
+    requires { fields ≤ field_limit }
+    ensures { result ≡ as_carried t.now (carried (take fields (names_in names.now)) (suc fields) [] 0 t.now) }
 {
-    let mut heads = before.heads;
-    let mut at = before.at;
-    let fault = 'scan: loop {
-        let e = heads.events;
-        let fields = heads.fields;
-        let n = fields + e;
-        let line = before.line + e;
-        let from = limits::FIELDS * e;
-        let o = event_name(text::rest(s, at), &heads.names, n, e);
-        let RowName::Name(w, k) = o else {
-            let number = sheet_section::left_with(o);
-            break 'scan Fault { number, line };
-        };
-        at = at + k;
-        let mut count = 0;
-        'pieces: loop {
-            let p = next_piece(s, at, &heads.names, fields, &heads.carried, from, count);
-            match p {
-                Piece::End => break 'pieces,
-                Piece::Refused(number) => break 'scan Fault { number, line },
-                Piece::Field(f, j) => {
-                    heads.carried[from + count] = f as u8;
-                    count = count + 1;
-                    at = at + j;
-                }
-            }
+    let mut row = [0; limits::FIELDS];
+    let mut count = 0;
+    let mut at = 0;
+    while text::starts(text::rest(t, at), b" ") {
+        let field = name::known_name(text::rest(t, at + 1), names, 0, fields)?;
+        let f = field.value as u8;
+        if fields <= count {
+            return Err(Fault::Name);
         }
-        at = at + 1;
-        name::put(&mut heads.names, n, w);
-        heads.carries[e] = count as u8;
-        heads.events = e + 1;
+        if row[..count].contains(&f) {
+            return Err(Fault::Name);
+        }
+        row[count] = f;
+        count += 1;
+        at += 1 + field.bytes;
+    }
+    let end = text::due_text(text::rest(t, at), b"\n", Fault::Line)?;
+    Ok(Taken {
+        value: Carried { fields: row, count },
+        bytes: at + end,
+    })
+}
+
+// An event's line: its name and the fields that it carries, and how many bytes the line took; nothing where none stands.
+fn event_line(t: &[u8], heads: &Heads) -> Result<Option<Taken<Event>>, Fault>
+    requires fields { heads.now.fields ≤ field_limit }
+    requires events { heads.now.events ≤ event_limit }
+    ensures { result ≡ as_row as_event (text "event=") (leb event_limit heads.now.events) (event (take heads.now.fields (names_in heads.now.names))
+        heads.now.fields (take (heads.now.fields + heads.now.events) (names_in heads.now.names))) t.now }
+{
+    let full = limits::EVENTS <= heads.events;
+    let used = heads.fields + heads.events;
+    let Some(name) = sheet_section::row_name(t, b"event=", full, &heads.names, used)? else {
+        return Ok(None);
     };
-    Scanned { fault, at, heads }
+    let carried = carried_fields(text::rest(t, name.bytes), &heads.names, heads.fields)?;
+    Ok(Some(Taken {
+        value: Event {
+            name: name.value,
+            carried: carried.value,
+        },
+        bytes: name.bytes + carried.bytes,
+    }))
 }
 
 // The event lines, from where the sheet is read to.
-pub fn read_events(s: &[u8], before: HeadsRead) -> HeadsRead
+pub fn read_events(s: &[u8], before: Result<Above, Wrong>) -> Result<Above, Wrong>
     requires { Started NoEvents s.now before }
-    ensures { result ≡ as_heads_read s.now (after (so_far s.now before) event_lines) }
+    ensures { result ≡ as_above s.now (after (so_far s.now before) event_lines) }
 {
-    if before.number != 0 {
-        return before;
+    // Stays: each section has its loop; said once it would take two closures, one that reads a row from the tables and one that puts it into them, no plainer.
+    let mut above = before?;
+    'lines: loop {
+        let line = above.line;
+        let e = above.heads.events;
+        let n = above.heads.fields + e;
+        let from = limits::FIELDS * e;
+        let row = event_line(text::rest(s, above.at), &above.heads);
+        match row {
+            Err(fault) => return Err(Wrong { fault, line }),
+            Ok(None) => return Ok(above),
+            Ok(Some(event)) => {
+                let carried = event.value.carried;
+                name::put(&mut above.heads.names, n, event.value.name);
+                above.heads.carried[from..from + limits::FIELDS].copy_from_slice(&carried.fields);
+                above.heads.carries[e] = carried.count as u8;
+                above.heads.events = e + 1;
+                above.line = line + 1;
+                above.at += event.bytes;
+            }
+        }
     }
-    let e = scan_events(s, before);
-    let fault = e.fault;
-    let heads = e.heads;
-    sheet_section::answer(fault.number, fault.line, e.at, heads)
 }

@@ -1,63 +1,103 @@
--- The field lines: the way into their section, each way out, and on to the next line.
+-- The field lines: the returns of `field_line`, the way into their section, each way out, and on to the next line.
 use Prim.Native.Nat.{ℕ, suc, ◌+◌, ◌-◌, ◌^◌, ◌<◌}
-use mathlib.Core.Path.{◌≡◌, sym, ◌∙◌, ap}
-use mathlib.Core.Bool.{Bool, true, false, not}
+use mathlib.Core.Path.{◌≡◌, ◌∙◌, ap, ap₂}
+use mathlib.Core.Bool.{Bool}
 use mathlib.Core.List.{List, [], ◌∷◌, ◌++◌}
 use native.Mathlib.Omega.{arith}
-use borrow.Author.Tests.{not-true, not-false}
 use lib.Dec.{leb}
 use lib.ListN.{length, take, drop, length-append}
 use mir.Val.{Fits}
 use mir.Syntax.{w64}
-use Rattle.meaning.specs.Text.{text, begins}
+use Rattle.std.specs.Prelude.{Result, Ok, Err, Option, Some, None}
+use Rattle.meaning.specs.Text.{text}
 use Rattle.meaning.specs.Refusal.{LINE}
 use Rattle.meaning.specs.Limits.{field_limit}
-use Rattle.meaning.specs.Reading.{Got, Reader, after}
-use Rattle.meaning.specs.Name.{Name, new_name}
+use Rattle.meaning.specs.Reading.{Got, Reader, after, give, due}
+use Rattle.meaning.specs.Name.{Name}
 use Rattle.meaning.specs.Sheet as M
 use Rattle.meaning.specs.Sheet.{statuses, all_names, with_field}
 use Rattle.meaning.specs.ReadSheet.{field_row, field_lines}
-use Rattle.theory.specs.Reading.Answered.{Left}
-use Rattle.theory.specs.Reading.Fixed.{left_open, left_closed}
+use Rattle.theory.specs.Reading.Answered.{Ends, left_at, ends_after, ends_map, line_ends}
+use Rattle.theory.specs.Reading.Built.{line_fault}
 use Rattle.theory.specs.Reading.Readers.{after_after}
+use Rattle.theory.specs.Reading.Shown.{shown_ends}
 use Rattle.theory.specs.Papers.Formed.{NoFields, NoEvents, names_field}
 use Rattle.limits.specs.Sizes.{name_room}
+use Rattle.reply.specs.declared.Fault.{Fault}
+use Rattle.reply.specs.declared.Wrong.{Wrong}
+use Rattle.text.specs.declared.Taken.{Taken}
+use Rattle.text.specs.Pieces.{as_length}
 use Rattle.name.specs.declared.Name.{Name as Kept}
-use Rattle.name.specs.Names.{names_in, put_in}
+use Rattle.name.specs.Names.{kept, name_of, names_in, put_in}
+use Rattle.name.proofs.Callers.{new_shows, good_again}
 use Rattle.sheet_tables.specs.declared.Heads.{Heads}
 use Rattle.sheet_tables.specs.Heads.{as_heads}
-use Rattle.sheet_section.specs.declared.HeadsRead.{HeadsRead}
-use Rattle.sheet_section.specs.declared.RowName.{RowName}
-use Rattle.sheet_section.specs.declared.RowName.TheVariants as R
-use Rattle.sheet_section.specs.Answers.{as_heads_read, refusal, left_with, row_name, told, so_far}
+use Rattle.sheet_section.specs.declared.Above.{Above}
+use Rattle.sheet_section.specs.Answers.{as_above, as_row, row_name, so_far}
 use Rattle.sheet_section.specs.Held.{Started}
-use Rattle.sheet_section.proofs.Rows.{tabled, counted}
-use Rattle.sheet_section.proofs.Sections.{closing, read_handed, read_from, Going, going_start, next, going_more, RowTold, going_row}
+use Rattle.sheet_section.proofs.Ends.{closing, end_off, end_on}
+use Rattle.sheet_section.proofs.Named.{Named, name_told, line_off, line_on}
+use Rattle.sheet_section.proofs.Rows.{tabled, counted, names_so_far}
+use Rattle.sheet_section.proofs.Sections.{read_handed, Going, going_start, Row, RowTold, going_row, going_more}
+use Rattle.sheet_fields.specs.Answers.{field}
 
--- all that is read with the fields, and where their section stands
-abbrev whole : List ℕ → HeadsRead → Got M.Heads
+-- A FIELD'S LINE, whose key and name stand
+module _ (used : List Name) (full : Bool) (t : List ℕ) (o : Result (Option (Taken Kept)) Fault) (read : o ≡ row_name (text "field=") full used t)
+    (x : Option (Taken Kept)) (ok : o ≡ Ok x) (w : Taken Kept) (some : x ≡ Some w) (u : List ℕ) (d : Result ℕ Fault) (behind : u ≡ drop w.bytes t)
+    (asked : d ≡ as_length u (due LINE (text "\n") 0 u)) where
+  abbrev ending : Name → Reader Name
+  ending w = closing (give w)
+
+  abbrev told : Result (Option (Taken Kept)) Fault
+  told = as_row kept (text "field=") full (field used) t
+
+  named : Named kept (text "field=") full used ending t w
+  named = rw (ok, some) at (name_told kept (text "field=") full used ending t o read)
+
+  pub field_open : (e : Fault) → d ≡ Err e → Err e ≡ told
+  field_open e z = line_off kept (text "field=") full used ending t named e (end_off (give named.name) named.left u behind d asked e z)
+
+  pub field_closed : (n : ℕ) → d ≡ Ok n → (b : Taken Kept) → b ≡ record { value = w.value; bytes = w.bytes + n } → Ok (Some b) ≡ told
+  field_closed n z b e =
+      let o = end_on (give named.name) named.left u behind d asked n z in
+      let far : w.bytes + n ≡ w.bytes + o.bytes = omega (arith, o.same) in
+      line_on kept (text "field=") full used ending t named o.left (omega (arith, named.far)) b
+      (e ∙ ap₂ (λ v m. record { value = v; bytes = m }) named.same far)
+
+pub ruleset lining = (field_open, field_closed)
+
+-- THE SECTION: all that is read with the fields, and where their section stands
+abbrev whole : List ℕ → Result Above Wrong → Got M.Heads
 whole s before = after (so_far s before) field_lines
 
-pub record Fields (s : List ℕ) (before : HeadsRead) (h : Heads) (at : ℕ) : Type 0 where
+pub record Fields (s : List ℕ) (before : Result Above Wrong) (a : Above) : Type 0 where
   pub small : length s < 2 ^ 64
-  pub going : Going (text "field=") field_row field_limit (λ hd. length hd.fields) NoEvents s (whole s before) h (before.line + h.fields) at
+  pub going : Going (text "field=") field_row field_limit (λ hd. length hd.fields) NoEvents s (whole s before) a
 
-pub fields_start : (s : List ℕ) (before : HeadsRead) → Started NoFields s before → before.number ≡ 0 → length s < 2 ^ 64
-    → Fields s before before.heads before.at
-fields_start s before start z small =
-    let c = start.came z in
-    let m : field_limit - length c.sheet.fields ≡ field_limit = rw c.late.0 in
-    let l : before.line + before.heads.fields ≡ before.line = omega (arith, counted before.heads c.sheet c.heads, ap length c.late.0) in
-    record { small = small; going = rw (l, read_from s before field_lines z) (going_start field_lines c (c.late.1, c.late.2, c.late.3) (λ l t. rw m)) }
+none_yet : (hd : M.Heads) → NoFields hd → field_limit - length hd.fields ≡ field_limit
+none_yet hd h = rw h.0
 
-pub fields_handed : (s : List ℕ) (before : HeadsRead) → Started NoFields s before → (before.number ≡ 0 → ⊥) → before ≡ as_heads_read s (whole s before)
-fields_handed s before start = read_handed s before (so_far s before) field_lines start.is
+pub fields_start : (s : List ℕ) (before : Result Above Wrong) (a : Above) → before ≡ Ok a → Started NoFields s before → length s < 2 ^ 64 → Fields s before a
+fields_start s before a is started small =
+    record {
+      small = small;
+      going =
+          going_start {key = text "field="} {row = field_row} {limit = field_limit} {size = λ hd. length hd.fields} {P = NoFields} {Q = NoEvents} field_lines a
+          (λ hd h. (h.1, h.2, h.3)) (λ hd h l t. rw (none_yet hd h)) before is started;
+    }
 
--- a row: its name, and the end of its line
-abbrev tail : M.Heads → Name → (M.Heads → Reader M.Heads) → Reader M.Heads
-tail hd w g = closing (g (with_field hd w))
+pub fields_handed : (s : List ℕ) (before : Result Above Wrong) (w : Wrong) → before ≡ Err w → Err w ≡ as_above s (whole s before)
+fields_handed s before = read_handed s before field_lines
 
-rows : (hd : M.Heads) (g : M.Heads → Reader M.Heads) (l : ℕ) (t : List ℕ) → after (field_row hd l t) g ≡ after (new_name (all_names hd) l t) (λ w. tail hd w g)
+abbrev Again : Name → ℕ → Type 0
+Again w n = name_of (kept w) ≡ w
+
+field_ends : (used : List Name) (u : List ℕ) → Ends suc Again (field used) u
+field_ends used u =
+    ends_after Again _ (shown_ends (new_shows used) u) λ w n h. ends_map {Q = Again} (λ _. w) (λ u i e. good_again w h.0) (line_ends line_fault (drop n u))
+
+rows : (hd : M.Heads) (g : M.Heads → Reader M.Heads) (l : ℕ) (t : List ℕ)
+    → after (field_row hd l t) g ≡ after (field (all_names hd) l t) (λ w. g (with_field hd w))
 unfolding field_row
 rows hd g l t = simp after_after
 
@@ -67,7 +107,10 @@ heads_field : (hd : M.Heads) (w : Name) (h : Heads) → h ≡ as_heads hd → (n
 unfolding as_heads statuses
 heads_field hd w h is ns e = rw (e, is, length-append hd.fields (w ∷ []))
 
-module _ (s : List ℕ) (before : HeadsRead) (h : Heads) (at : ℕ) (i : Fields s before h at) where
+module _ (s : List ℕ) (before : Result Above Wrong) (a : Above) (i : Fields s before a) where
+  abbrev h : Heads
+  h = a.heads
+
   abbrev hd : M.Heads
   hd = i.going.sheet
 
@@ -79,65 +122,61 @@ module _ (s : List ℕ) (before : HeadsRead) (h : Heads) (at : ℕ) (i : Fields 
       let m : length hd.miles ≡ 0 = rw i.going.late.2 in
       (c.0, omega arith)
 
-  pub fields_number : Fits w64 (before.line + h.fields)
-  fields_number = omega (arith, i.going.lines, i.going.left.within, i.small)
+  module _ (v : List ℕ) (o : Result (Option (Taken Kept)) Fault) (rest : v ≡ drop a.at s)
+      (read : o ≡ as_row kept (text "field=") (leb field_limit h.fields) (field (take h.fields (names_in h.names))) v) where
+    row : RowTold i.going kept Again (with_field hd) o
+    row =
+        let used = names_so_far h hd i.going.is i.going.plain h.fields counts.1 in
+        going_row i.going kept Again (with_field hd) (field_ends (all_names hd)) (rows hd) field_limit h.fields
+        (omega (arith, counts.0)) v o rest (rw used at read)
 
-  module _ (v : List ℕ) (o : RowName) (rest : v ≡ drop at s)
-      (read : o ≡ row_name (text "field=") (leb field_limit h.fields) (take h.fields (names_in h.names)) v) where
-    row : RowTold i.going (tail hd) h.fields o
-    row = going_row i.going (tail hd) (rows hd) h.fields counts.1 field_limit h.fields (omega (arith, counts.0)) v o rest read
+    pub fields_wrong : (e : Fault) → o ≡ Err e → (l : ℕ) → l ≡ a.line → Err (record { fault = e; line = l }) ≡ as_above s (whole s before)
+    fields_wrong e z l y = rw y (rw z at row)
 
-    pub fields_left : (k : ℕ) → o ≡ R.Left k → (f : ℕ) → f ≡ left_with o → (line : ℕ) → line ≡ before.line + h.fields → (r : HeadsRead) → r ≡ told f line at h
-        → r ≡ as_heads_read s (whole s before)
-    fields_left k e f g line l r q = rw (q, g, e, l) (rw e at row)
+    pub fields_over : (x : Option (Taken Kept)) → o ≡ Ok x → x ≡ None → Ok a ≡ as_above s (whole s before)
+    fields_over x z y = rw (z, y) at row
 
-    module _ (w : Kept) (k : ℕ) (e : o ≡ R.Name w k) where
-      begun : RowTold i.going (tail hd) h.fields (R.Name w k)
-      begun = rw e at row
+    module _ (x : Option (Taken Kept)) (ok : o ≡ Ok x) (w : Taken Kept) (some : x ≡ Some w) where
+      read_row : Row i.going kept Again (with_field hd) w
+      read_row = rw (ok, some) at row
 
-      pub fields_room : Fits w64 (at + k)
-      fields_room = omega (arith, begun.1.within, i.small)
+      bytes : w.bytes ≡ 6 + read_row.bytes
+      bytes = ap (λ (w : Taken Kept). w.bytes) read_row.same
+
+      pub fields_at : Fits w64 (a.at + w.bytes)
+      fields_at = omega (arith, read_row.left.within, i.small)
+
+      pub fields_number : Fits w64 (a.line + 1)
+      fields_number = omega (arith, read_row.left.within, i.small, i.going.lines, bytes)
 
       pub fields_less : field_limit - (h.fields + 1) < field_limit - h.fields
-      fields_less = omega (arith, begun.0.room, counts.0)
+      fields_less = omega (arith, read_row.room, counts.0)
 
       pub fields_put : h.fields < name_room
-      fields_put = omega (arith, begun.0.room, counts.0)
+      fields_put = omega (arith, read_row.room, counts.0)
 
-      module _ (c : Bool) (feed : c ≡ begins (10 ∷ []) (drop (at + k) s)) where
-        pub fields_line_lem : not c ≡ true → (line : ℕ) → line ≡ before.line + h.fields → (r : HeadsRead) → r ≡ refusal LINE line
-            → r ≡ as_heads_read s (whole s before)
-        fields_line_lem u line l r q = q ∙ rw (l, left_open _ begun.1 (sym feed ∙ not-true c u))
+      pub fields_more : (line : ℕ) → line ≡ a.line + 1 → (at : ℕ) → at ≡ a.at + w.bytes → (ns : List ℕ) → ns ≡ put_in h.names h.fields w.value
+          → Fields s before (record { line = line; at = at; heads = tabled h.model (h.fields + 1) h.events h.stages h.miles ns h.carried h.carries h.under })
+      fields_more line line_is at at_is ns p =
+          let g = i.going in
+          let plain = g.plain in
+          let name = read_row.value in
+          let one : length (hd.fields ++ (name ∷ [])) ≡ length hd.fields + 1 = length-append hd.fields (name ∷ []) in
+          record {
+            small = i.small;
+            going =
+                going_more g h.fields w.value name counts.1 fields_put (ap (λ (w : Taken Kept). w.value) read_row.same) read_row.holds read_row.room
+                (with_field hd name) g.late one (names_field hd name g.late) _ line_is (omega (arith, g.lines, bytes))
+                (left_at read_row.left at at_is) (λ e. heads_field hd name h g.is ns (p ∙ e))
+                (λ a. record {
+                  names =
+                      a;
+                  carried =
+                      plain.carried;
+                  few_fields = omega (arith, read_row.room);
+                  few_events = plain.few_events;
+                  few_statuses = plain.few_statuses;
+                });
+          }
 
-        module _ (u : not c ≡ false) where
-          closed : Left (whole s before) (next i.going (with_field hd begun.0.name)) (suc (before.line + h.fields)) (at + k + 1) s
-          closed = left_closed _ begun.1 (sym feed ∙ not-false c u)
-
-          pub fields_end : Fits w64 (at + k + 1)
-          fields_end = omega (arith, closed.within, i.small)
-
-          pub fields_more : (at' : ℕ) → at' ≡ at + k + 1 → (ns : List ℕ) → ns ≡ put_in h.names h.fields w
-              → Fields s before (tabled h.model (h.fields + 1) h.events h.stages h.miles ns h.carried h.carries h.under) at'
-          fields_more at' y ns p =
-              let g = i.going in
-              let plain = g.plain in
-              let name = begun.0.name in
-              let one : length (hd.fields ++ (name ∷ [])) ≡ length hd.fields + 1 = length-append hd.fields (name ∷ []) in
-              record {
-                small = i.small;
-                going =
-                    going_more g begun.0 fields_put (with_field hd name) g.late one (names_field hd name g.late) at' (before.line + (h.fields + 1))
-                    (omega arith) (omega arith)
-                    (rw y closed) _ (λ e. heads_field hd name h g.is ns (p ∙ e))
-                    (λ a. record {
-                      names =
-                          a;
-                      carried =
-                          plain.carried;
-                      few_fields = omega (arith, begun.0.room);
-                      few_events = plain.few_events;
-                      few_statuses = plain.few_statuses;
-                    });
-              }
-
-pub ruleset fielding = (fields_start, fields_handed, fields_number, fields_left, fields_room, fields_less, fields_put, fields_line_lem, fields_end, fields_more)
+pub ruleset fielding = (fields_start, fields_handed, fields_wrong, fields_over, fields_at, fields_number, fields_less, fields_put, fields_more)

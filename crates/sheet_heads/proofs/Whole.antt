@@ -2,6 +2,7 @@
 use mathlib.Core.Path.{◌≡◌, sym, ◌∙◌, ap}
 use mathlib.Core.List.{List}
 use Prim.Native.Nat.{ℕ}
+use Rattle.std.specs.Prelude.{Result}
 use Rattle.meaning.specs.Text.{text}
 use Rattle.meaning.specs.Reading.{Reader, after, ◌>>=◌}
 use Rattle.meaning.specs.Sheet.{Heads, with_stage}
@@ -11,8 +12,9 @@ use Rattle.theory.specs.Reading.BuiltPapers.{model_built, fields_built, events_b
 use Rattle.theory.specs.Reading.Readers.{Ensures, bind_ensures, after_after}
 use Rattle.theory.specs.Papers.Formed.{WellHeads, NoFields, NoEvents, NoStages, NoMiles}
 use Rattle.theory.specs.Papers.Sheets.{model_well, fields_well, events_well, stages_well}
-use Rattle.sheet_section.specs.declared.HeadsRead.{HeadsRead}
-use Rattle.sheet_section.specs.Answers.{as_heads_read, so_far}
+use Rattle.reply.specs.declared.Wrong.{Wrong}
+use Rattle.sheet_section.specs.declared.Above.{Above}
+use Rattle.sheet_section.specs.Answers.{as_above, so_far}
 use Rattle.sheet_section.specs.Held.{Started}
 use Rattle.sheet_section.proofs.Callers.{Spread, model_spread, on_spread, reached, read_on}
 
@@ -49,12 +51,12 @@ heads_parts : (l : ℕ) (s : List ℕ) → heads l s ≡ (to_stages >>= mile_lin
 unfolding heads
 heads_parts l s = sym (simp after_after)
 
-module _ (s : List ℕ) (m : HeadsRead) (model : m ≡ as_heads_read s (model_line 1 s)) where
+module _ (s : List ℕ) (m : Result Above Wrong) (model : m ≡ as_above s (model_line 1 s)) where
   pub heads_fields : Started NoFields s m
   heads_fields = reached s model_built model_well (model_spread s) m model
 
-  module _ (f : HeadsRead) (fields : f ≡ as_heads_read s (after (so_far s m) field_lines)) where
-    fields_is : f ≡ as_heads_read s (to_fields 1 s)
+  module _ (f : Result Above Wrong) (fields : f ≡ as_above s (after (so_far s m) field_lines)) where
+    fields_is : f ≡ as_above s (to_fields 1 s)
     fields_is = read_on s model_built model_well (model_spread s) m model field_lines f fields
 
     fields_spread : Spread s to_fields
@@ -63,8 +65,8 @@ module _ (s : List ℕ) (m : HeadsRead) (model : m ≡ as_heads_read s (model_li
     pub heads_events : Started NoEvents s f
     heads_events = reached s fields_so_built fields_so_well fields_spread f fields_is
 
-    module _ (e : HeadsRead) (events : e ≡ as_heads_read s (after (so_far s f) event_lines)) where
-      events_is : e ≡ as_heads_read s (to_events 1 s)
+    module _ (e : Result Above Wrong) (events : e ≡ as_above s (after (so_far s f) event_lines)) where
+      events_is : e ≡ as_above s (to_events 1 s)
       events_is = read_on s fields_so_built fields_so_well fields_spread f fields_is event_lines e events
 
       events_spread : Spread s to_events
@@ -73,8 +75,8 @@ module _ (s : List ℕ) (m : HeadsRead) (model : m ≡ as_heads_read s (model_li
       pub heads_stages : Started NoStages s e
       heads_stages = reached s events_so_built events_so_well events_spread e events_is
 
-      module _ (x : HeadsRead) (stages : x ≡ as_heads_read s (after (so_far s e) stage_lines)) where
-        stages_is : x ≡ as_heads_read s (to_stages 1 s)
+      module _ (x : Result Above Wrong) (stages : x ≡ as_above s (after (so_far s e) stage_lines)) where
+        stages_is : x ≡ as_above s (to_stages 1 s)
         stages_is = read_on s events_so_built events_so_well events_spread e events_is stage_lines x stages
 
         stages_spread : Spread s to_stages
@@ -83,8 +85,8 @@ module _ (s : List ℕ) (m : HeadsRead) (model : m ≡ as_heads_read s (model_li
         pub heads_miles : Started NoMiles s x
         heads_miles = reached s stages_so_built stages_so_well stages_spread x stages_is
 
-        pub heads_read : (r : HeadsRead) → r ≡ as_heads_read s (after (so_far s x) mile_lines) → r ≡ as_heads_read s (heads 1 s)
+        pub heads_read : (r : Result Above Wrong) → r ≡ as_above s (after (so_far s x) mile_lines) → r ≡ as_above s (heads 1 s)
         heads_read r miles =
-            read_on s stages_so_built stages_so_well stages_spread x stages_is mile_lines r miles ∙ ap (as_heads_read s) (sym (heads_parts 1 s))
+            read_on s stages_so_built stages_so_well stages_spread x stages_is mile_lines r miles ∙ ap (as_above s) (sym (heads_parts 1 s))
 
 pub ruleset sectioning = (heads_fields, heads_events, heads_stages, heads_miles, heads_read)

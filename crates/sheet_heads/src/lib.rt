@@ -3,13 +3,14 @@
 
 ghost use Rattle.std.specs.Prelude.{◌≡◌};
 ghost use Rattle.meaning.specs.ReadSheet.{heads};
-ghost use Rattle.sheet_section.specs.Answers.{as_heads_read};
+ghost use Rattle.sheet_section.specs.Answers.{as_above};
 
-use sheet_section::HeadsRead;
+use reply::Wrong;
+use sheet_section::Above;
 
 // All that stands above the rules at the start of a sheet, or the refusal.
-pub fn read_heads(s: &[u8]) -> HeadsRead
-    ensures { result ≡ as_heads_read s.now (heads 1 s.now) }
+pub fn read_heads(s: &[u8]) -> Result<Above, Wrong>
+    ensures { result ≡ as_above s.now (heads 1 s.now) }
 {
     let model = sheet_fields::read_model(s);
     let fields = sheet_fields::read_fields(s, model);

@@ -5,12 +5,12 @@ use mathlib.Core.Bool.{Bool, true, false, not}
 use mathlib.Core.List.{List}
 use mathlib.Core.Option.{Option, none, some}
 use native.Mathlib.Omega.{arith}
-use native.Mathlib.Nat.{add-zero}
 use borrow.Author.Tests.{not-true, not-false}
 use lib.ListN.{length, take, drop}
 use lib.Seq.{sets}
 use mir.Val.{Fits}
 use mir.Syntax.{w64}
+use Rattle.std.specs.Prelude.{Result, Ok, Err}
 use Rattle.meaning.specs.Text.{text, begins}
 use Rattle.meaning.specs.Refusal.{LINE, COND}
 use Rattle.meaning.specs.Limits.{leaf_limit}
@@ -22,42 +22,65 @@ use Rattle.meaning.specs.ReadCondition.{condition}
 use Rattle.meaning.specs.ReadSheet.{plain_end, asked_end, ending}
 use Rattle.limits.specs.Sizes.{word_room}
 use Rattle.theory.specs.Lists.Members.{take_sets}
-use Rattle.theory.specs.Reading.Built.{Fault, line_fault, cond_fault, demand_built, stands_built}
-use Rattle.theory.specs.Reading.Told.{took}
+use Rattle.theory.specs.Reading.Built.{line_fault, cond_fault, demand_built, stands_built}
+use Rattle.theory.specs.Reading.Built as Built
 use Rattle.theory.specs.Papers.Conditions.{Good}
-use Rattle.theory.specs.Reading.Answered.{here, Ends, inline_ends, ends_after, ends_map, line_ends, Left, left_answer, left_got, left_wrong}
-use Rattle.text.specs.Answers.{as_bytes}
-use Rattle.text.specs.declared.Bytes.{Bytes}
-use Rattle.text.specs.declared.Bytes.TheVariants as B
-use Rattle.text.proofs.Callers.{begins_fits, stands_here, stands_not, line_end_here, line_end_off, line_end_wrong, line_end_got, due_fits}
+use Rattle.theory.specs.Reading.Answered.{here, Ends, inline_ends, ends_after, ends_map, line_ends, Left}
+use Rattle.theory.specs.Reading.Piece.{Refuses, Off, off_answer, left_piece, Next, piece_on, piece_off}
+use Rattle.reply.specs.declared.Fault.{Fault}
+use Rattle.reply.specs.declared.Fault.TheVariants as F
+use Rattle.reply.specs.Faults.{fault_of}
+use Rattle.text.specs.Pieces.{as_length}
+use Rattle.text.proofs.Callers.{begins_fits, stands_here, stands_not}
 use Rattle.cond_value.specs.Flat.{words}
 use Rattle.cond_value.proofs.Size.{words_length}
 use Rattle.cond_item.specs.declared.Place.{Place}
-use Rattle.cond_item.specs.declared.CondRead.{CondRead}
-use Rattle.cond_item.specs.declared.CondRead.TheVariants as C
-use Rattle.cond_item.specs.Answers.{place_at, Stored, Within, further}
-use Rattle.cond_item.proofs.Callers.{Placed, placed, unplaced, place_within, place_further, cleared_below}
-use Rattle.cond_read.specs.Answers.{as_condition, stored}
+use Rattle.cond_item.specs.Answers.{Stored}
+use Rattle.cond_item.specs.Answers.{place_at, further}
+use Rattle.cond_item.proofs.Callers.{cleared_below}
+use Rattle.cond_item.proofs.Callers.{Placed, placed, unplaced, place_within, place_further}
+use Rattle.cond_read.specs.Answers.{stored}
+use Rattle.cond_read.specs.Answers.{as_condition}
 use Rattle.cond_read.proofs.Callers.{condition_ends}
 use Rattle.sheet_tables.specs.Rules.{words_of}
 use Rattle.sheet_rule.specs.Parts.{as_ending}
 
+-- the LF that is due, as the end of the line
+abbrev next_line : Reader (Unit {0})
+next_line l s = got tt (suc l) s
+
+line_told : (k : ℕ) (u : List ℕ) → as_length u (due k (text "\n") 0 u) ≡ as_length u (line_end k 0 u)
+unfolding line_end
+line_told k u = go (due k (text "\n") 0 u)
+  where
+    go : (g : Got (Unit {0})) → as_length u g ≡ as_length u (after g (λ _. next_line))
+    go (got a l t) = refl
+    go (wrong n l) = refl
+
 -- LINES WITHOUT A CONDITION
 module _ (s : List ℕ) (top leaves : ℕ) (on : Bool) where
-  pub plain_bare : not on ≡ true → C.Refused LINE ≡ as_ending s top leaves (plain_end on 0 s)
+  pub plain_bare : not on ≡ true → Err F.Line ≡ as_ending s top leaves (plain_end on 0 s)
   unfolding plain_end
   plain_bare e = rw (not-true on e)
 
-  module _ (fired : not on ≡ false) (b : Bool) (is : b ≡ begins (text "\n") s) where
-    pub plain_open : not b ≡ true → C.Refused LINE ≡ as_ending s top leaves (plain_end on 0 s)
+  module _ (fired : not on ≡ false) (p : Result ℕ Fault) (is : p ≡ as_length s (due LINE (text "\n") 0 s)) where
+    opened : Left (plain_end on 0 s) (λ l s. after (line_end LINE l s) (λ _. give none)) 0 0 s
     unfolding plain_end
-    plain_open e = rw (not-false on fired, line_end_off 0 s b is (not-true b e))
+    opened = record { within = omega arith; is = rw (not-false on fired) }
 
-    pub plain_read : not b ≡ false → C.At (record { bytes = 1; top = top; leaves = leaves }) ≡ as_ending s top leaves (plain_end on 0 s)
-    unfolding plain_end words_of leaves_of
-    plain_read e =
-        let one = took s 1 (begins_fits (text "\n") s (sym is ∙ not-false b e)) in
-        rw (not-false on fired, line_end_here LINE 0 s b is (not-false b e), one, add-zero top, add-zero leaves)
+    pub plain_open : (e : Fault) → p ≡ Err e → Err e ≡ as_ending s top leaves (plain_end on 0 s)
+    plain_open e q =
+        let off = piece_off (λ a n. n) fault_of (line_ends line_fault) _ opened s refl p (is ∙ line_told LINE s) e q in
+        off_answer (place_at words_of leaves_of top leaves) s off
+
+    pub plain_read : (n : ℕ) → p ≡ Ok n → Ok (record { bytes = n; top = top; leaves = leaves }) ≡ as_ending s top leaves (plain_end on 0 s)
+    unfolding words_of leaves_of
+    plain_read n q =
+        let h = piece_on (λ a n. n) fault_of (line_ends line_fault) _ opened s refl p (is ∙ line_told LINE s) n q in
+        let a : n ≡ 0 + h.bytes = omega (arith, h.same) in
+        let b : top ≡ top + 0 = omega arith in
+        let c : leaves ≡ leaves + 0 = omega arith in
+        left_piece (place_at words_of leaves_of top leaves) fault_of h.left (record { bytes = n; top = top; leaves = leaves }) cc
 
 pub ruleset plainly = (plain_bare, plain_open, plain_read)
 
@@ -65,7 +88,7 @@ pub ruleset plainly = (plain_bare, plain_open, plain_read)
 abbrev pub Few : ℕ → Option Cond → ℕ → Type 0
 Few l c n = (l ≤ leaf_limit → l + length (leaves_of c) ≤ leaf_limit) × (length (words_of c) ≤ 2 * length (leaves_of c))
 
-closed_ends : {k : ℕ} → Fault k → (l : ℕ) (c : Option Cond) → Few l c 0 → (s : List ℕ)
+closed_ends : {k : ℕ} → Built.Fault k → (l : ℕ) (c : Option Cond) → Few l c 0 → (s : List ℕ)
     → Ends suc (Few l) (λ l s. after (line_end k l s) (λ _. give c)) s
 closed_ends h l c few s = ends_map (λ _. c) (λ u n e. few) (line_ends h s)
 
@@ -85,21 +108,22 @@ module _ (fs ss : List Name) (leaves : ℕ) where
       closed_ends cond_fault leaves (some c) ((λ _. h.few), omega (arith, words_length c)) (drop n s)
 
   -- LINES WITH A CONDITION
-  module _ (s : List ℕ) (top : ℕ) (r : CondRead) (is : r ≡ as_condition s top leaves (asks 0 s))
+  module _ (s : List ℕ) (top : ℕ) (r : Result Place Fault) (is : r ≡ as_condition s top leaves (asks 0 s))
       (was now : List ℕ) (space : now ≡ stored was top (asks 0 s)) where
-    module _ (k : ℕ) (told : r ≡ C.Refused k) where
-      unasked : asks 0 s ≡ wrong k 0
-      unasked = unplaced words leaves_c (condition_ends ss fs leaves s) top leaves r is k told 0
+    module _ (e : Fault) (told : r ≡ Err e) where
+      unasked : Refuses fault_of asks s e
+      unasked = unplaced words leaves_c (condition_ends ss fs leaves s) top leaves r is e told
 
-      pub asked_refused : r ≡ as_ending s top leaves (asked 0 s)
+      pub asked_refused : Err e ≡ as_ending s top leaves (asked 0 s)
       unfolding asked_end
-      asked_refused = told ∙ rw unasked
+      asked_refused = rw (unasked.is, unasked.reads 0)
 
       pub asked_refused_space : top ≤ 2 * leaves → leaves ≤ leaf_limit → word_room ≤ length was → Stored words_of was now top (asked 0 s)
       unfolding asked_end
-      asked_refused_space few small wide = rw unasked (ap (take top) (space ∙ rw unasked) ∙ cleared_below was top (omega arith))
+      asked_refused_space few small wide =
+          rw (unasked.reads 0) (ap (take top) (space ∙ rw (unasked.reads 0)) ∙ cleared_below was top (omega arith))
 
-    module _ (p : Place) (told : r ≡ C.At p) where
+    module _ (p : Place) (told : r ≡ Ok p) where
       read : Placed words leaves_c here (λ c n. Good ss fs leaves (leaves_c c)) asks s top leaves p
       read = placed words leaves_c (condition_ends ss fs leaves s) top leaves r is p told
 
@@ -110,42 +134,39 @@ module _ (fs ss : List Name) (leaves : ℕ) where
       stores : now ≡ sets was top (words read.value)
       stores = space ∙ rw (read.reads 0)
 
-      module _ (u : List ℕ) (at : u ≡ drop p.bytes s) (e : Bytes) (end : e ≡ as_bytes u (due COND (text "\n") 0 u)) where
-        line : e ≡ as_bytes (drop p.bytes s) (due COND (text "\n") 0 (drop p.bytes s))
-        line = rw at at end
+      module _ (u : List ℕ) (at : u ≡ drop p.bytes s) (d : Result ℕ Fault) (end : d ≡ as_length u (due COND (text "\n") 0 u)) where
+        line : d ≡ as_length u (line_end COND 0 u)
+        line = end ∙ line_told COND u
 
-        module _ (k : ℕ) (not_due : e ≡ B.Refused k) where
-          open_end : asked 0 s ≡ wrong k 0
-          open_end = left_wrong (line_end COND) _ came k (line_end_wrong e COND (drop p.bytes s) line k not_due 0)
+        module _ (e : Fault) (not_due : d ≡ Err e) where
+          open_end : Off fault_of (asked 0 s) 0 e
+          open_end = piece_off (λ a n. n) fault_of (line_ends cond_fault) _ came u at d line e not_due
 
-          pub asked_open : C.Refused k ≡ as_ending s top leaves (asked 0 s)
-          asked_open = rw open_end
+          pub asked_open : Err e ≡ as_ending s top leaves (asked 0 s)
+          asked_open = off_answer (place_at words_of leaves_of top leaves) s open_end
 
           pub asked_open_space : Stored words_of was now top (asked 0 s)
-          asked_open_space = rw open_end (ap (take top) stores ∙ take_sets top (words read.value) was top (omega arith))
+          asked_open_space = rw open_end.told (ap (take top) stores ∙ take_sets top (words read.value) was top (omega arith))
 
-        module _ (n : ℕ) (due_here : e ≡ B.Read n) where
-          closed : Left (asked 0 s) (give (some read.value)) 1 (p.bytes + n) s
-          closed =
-              let fits = due_fits e COND (text "\n") (drop p.bytes s) line n due_here in
-              left_got (line_end COND) _ came tt 1 n fits (line_end_got e COND (drop p.bytes s) line n due_here 0)
+        module _ (n : ℕ) (due_here : d ≡ Ok n) where
+          closed : Next {A = Unit {0}} (λ a n. n) (λ u n. n ≡ 1) (asked 0 s) (λ _. give (some read.value)) 1 p.bytes s n
+          closed = piece_on (λ a n. n) fault_of (line_ends cond_fault) _ came u at d line n due_here
 
           pub asked_fits : length s < 2 ^ 64 → (m : ℕ) → m ≡ p.bytes + n → Fits w64 m
-          asked_fits big m w = omega (arith, closed.within)
+          asked_fits big m w = omega (arith, closed.left.within, closed.same)
 
           pub asked_read : (m : ℕ) → m ≡ p.bytes + n
-              → C.At (record { bytes = m; top = p.top; leaves = p.leaves }) ≡ as_ending s top leaves (asked 0 s)
+              → Ok (record { bytes = m; top = p.top; leaves = p.leaves }) ≡ as_ending s top leaves (asked 0 s)
           unfolding leaves_of words_of
           asked_read m w =
               let t = read.top_is in
               let v = read.leaves_is in
-              let at : Place = record { bytes = m; top = p.top; leaves = p.leaves } in
-              let y : C.At at ≡ place_at words_of leaves_of top leaves (some read.value) m = cc in
-              y ∙ left_answer (place_at words_of leaves_of top leaves) C.Refused closed m w
+              let a : m ≡ p.bytes + closed.bytes = omega (arith, closed.same) in
+              left_piece (place_at words_of leaves_of top leaves) fault_of closed.left (record { bytes = m; top = p.top; leaves = p.leaves }) cc
 
           pub asked_space : Stored words_of was now top (asked 0 s)
           unfolding words_of
-          asked_space = rw closed.is stores
+          asked_space = rw closed.left.is stores
 
 pub ruleset asking = (asked_refused, asked_refused_space, asked_open, asked_open_space, asked_fits, asked_read, asked_space)
 
@@ -177,7 +198,7 @@ module _ (fs ss : List Name) (on : Bool) (leaves : ℕ) where
 
   module _ (s : List ℕ) (top : ℕ) (b : Bool) (is : b ≡ begins (text " if ") s) where
     module _ (e : not b ≡ true) where
-      pub ending_without : (r : CondRead) → r ≡ as_ending s top leaves (plain_end on 0 s) → r ≡ as_ending s top leaves (whole 0 s)
+      pub ending_without : (r : Result Place Fault) → r ≡ as_ending s top leaves (plain_end on 0 s) → r ≡ as_ending s top leaves (whole 0 s)
       ending_without r q = q ∙ rw (ending_plain 0 s (sym is ∙ not-true b e))
 
       pub ending_without_space : (was : List ℕ) → Stored words_of was was top (whole 0 s)
@@ -199,14 +220,24 @@ module _ (fs ss : List Name) (on : Bool) (leaves : ℕ) where
       pub ending_space : (was now : List ℕ) → Stored words_of was now top (asked fs ss leaves 0 v) → Stored words_of was now top (whole 0 s)
       ending_space was now h = rw same h
 
-      module _ (c : CondRead) (so : c ≡ as_ending v top leaves (asked fs ss leaves 0 v)) where
+      module _ (c : Result Place Fault) (so : c ≡ as_ending v top leaves (asked fs ss leaves 0 v)) where
         key : 4 ≤ length s
         key = begins_fits (text " if ") s (sym is ∙ not-false b e)
 
-        pub ending_within : Within s 4 c
-        ending_within = place_within words_of leaves_of 4 s v at key (asked_ends fs ss leaves v) top leaves c so
+        told_further : further 4 c ≡ as_ending s top leaves (whole 0 s)
+        told_further = rw same (place_further words_of leaves_of 4 s v at key (asked_ends fs ss leaves v) top leaves c so)
 
-        pub ending_read : (r : CondRead) → r ≡ further 4 c → r ≡ as_ending s top leaves (whole 0 s)
-        ending_read r q = q ∙ rw same (place_further words_of leaves_of 4 s v at key (asked_ends fs ss leaves v) top leaves c so)
+        pub ending_refused : (e : Fault) → c ≡ Err e → Err e ≡ as_ending s top leaves (whole 0 s)
+        ending_refused e told = rw told at told_further
 
-pub ruleset ending_all = (ending_without, ending_without_space, ending_space, ending_within, ending_read)
+        module _ (p : Place) (told : c ≡ Ok p) where
+          within : 4 + p.bytes ≤ length s
+          within = rw told at (place_within words_of leaves_of 4 s v at key (asked_ends fs ss leaves v) top leaves c so)
+
+          pub ending_fits : length s < 2 ^ 64 → (m : ℕ) → m ≡ 4 + p.bytes → Fits w64 m
+          ending_fits big m w = omega (arith, within)
+
+          pub ending_read : (m : ℕ) → m ≡ 4 + p.bytes → Ok (record { bytes = m; top = p.top; leaves = p.leaves }) ≡ as_ending s top leaves (whole 0 s)
+          ending_read m w = rw w (rw told at told_further)
+
+pub ruleset ending_all = (ending_without, ending_without_space, ending_space, ending_refused, ending_fits, ending_read)

@@ -9,10 +9,10 @@ ghost use Rattle.sheet_tables.specs.Rules.{words_of};
 ghost use Rattle.sheet_rule.specs.Answers.{Room, as_row, rule_space};
 ghost use Rattle.sheet_rule.specs.Parts.{as_ending, row_of, Fit};
 
-use cond_item::{CondRead, Place};
+use cond_item::Place;
+use reply::Fault;
 use sheet_tables::Rule;
-use sheet_trigger::{Start, StartRead};
-use text::Bytes;
+use sheet_trigger::Start;
 
 // A rule, how many bytes its line took behind the key, and the words and leaves that there are behind it.
 #[derive(Clone, Copy)]
@@ -23,30 +23,20 @@ pub struct Row {
     pub leaves: usize,
 }
 
-#[derive(Clone, Copy)]
-pub enum RowRead {
-    At(Row),
-    Refused(u8),
-}
-
 // The end of a line without ` if `, which has a trigger then.
-fn plain_end(s: &[u8], top: usize, leaves: usize, on: bool) -> CondRead
+#[tactic(auto, using(crate::proofs::Endings::plainly))]
+fn plain_end(s: &[u8], top: usize, leaves: usize, on: bool) -> Result<Place, Fault>
     ensures { result ≡ as_ending s.now top leaves (plain_end on 0 s.now) }
 {
     if !on {
-        return CondRead::Refused(reply::LINE);
+        return Err(Fault::Line);
     }
-    if !text::starts(s, b"\n") {
-        return CondRead::Refused(reply::LINE);
-    }
-    CondRead::At(Place {
-        bytes: 1,
-        top,
-        leaves,
-    })
+    let bytes = text::due_text(s, b"\n", Fault::Line)?;
+    Ok(Place { bytes, top, leaves })
 }
 
 // The condition behind ` if `, and the end of its line.
+#[tactic(auto, using(crate::proofs::Endings::asking))]
 fn asked_end(
     s: &[u8],
     fields: &[u64],
@@ -54,29 +44,23 @@ fn asked_end(
     words: &mut [u64],
     top: usize,
     leaves: usize,
-) -> CondRead
+) -> Result<Place, Fault>
     requires { Ready (names_in statuses.now) (names_in fields.now) words.old top leaves }
     ensures answer { result ≡ as_ending s.now top leaves
         (asked_end (names_in fields.now) (names_in statuses.now) leaves 0 s.now) }
     ensures space { Stored words_of words.old words.new top
         (asked_end (names_in fields.now) (names_in statuses.now) leaves 0 s.now) }
 {
-    let c = cond_read::read_condition(s, statuses, fields, words, top, leaves);
-    let CondRead::At(p) = c else {
-        return c;
-    };
-    let e = text::due_text(text::rest(s, p.bytes), b"\n", reply::COND);
-    match e {
-        Bytes::Refused(k) => CondRead::Refused(k),
-        Bytes::Read(n) => CondRead::At(Place {
-            bytes: p.bytes + n,
-            top: p.top,
-            leaves: p.leaves,
-        }),
-    }
+    let p = cond_read::read_condition(s, statuses, fields, words, top, leaves)?;
+    let end = text::due_text(text::rest(s, p.bytes), b"\n", Fault::Cond)?;
+    Ok(Place {
+        bytes: p.bytes + end,
+        ..p
+    })
 }
 
 // The line from ` if ` on, if it stands there.
+#[tactic(auto, using(crate::proofs::Endings::ending_all))]
 fn read_ending(
     s: &[u8],
     fields: &[u64],
@@ -85,7 +69,7 @@ fn read_ending(
     top: usize,
     leaves: usize,
     on: bool,
-) -> CondRead
+) -> Result<Place, Fault>
     requires { Ready (names_in statuses.now) (names_in fields.now) words.old top leaves }
     ensures answer { result ≡ as_ending s.now top leaves
         (ending (names_in fields.now) (names_in statuses.now) on leaves 0 s.now) }
@@ -95,8 +79,11 @@ fn read_ending(
     if !text::starts(s, b" if ") {
         return plain_end(s, top, leaves, on);
     }
-    let c = asked_end(text::rest(s, 4), fields, statuses, words, top, leaves);
-    cond_item::behind(s, 4, c)
+    let p = asked_end(text::rest(s, 4), fields, statuses, words, top, leaves)?;
+    Ok(Place {
+        bytes: 4 + p.bytes,
+        ..p
+    })
 }
 
 // The rule that a line's start and its end make, whose words begin at `top`.
@@ -104,11 +91,10 @@ fn made(a: Start, p: Place, top: usize) -> Row
     requires { Fit a p top }
     ensures { result ≡ row_of a p top }
 {
-    let trigger = a.trigger;
     let rule = Rule {
         plus: a.plus,
         status: a.status,
-        trigger,
+        trigger: a.trigger,
         from: top as u16,
         to: p.top as u16,
     };
@@ -121,6 +107,7 @@ fn made(a: Start, p: Place, top: usize) -> Row
 }
 
 // The rule of a line behind its key; where the line is refused, words from `top` on may stand.
+#[tactic(auto, using(crate::proofs::Rows::rowing))]
 fn rule_row(
     s: &[u8],
     fields: &[u64],
@@ -129,28 +116,21 @@ fn rule_row(
     words: &mut [u64],
     top: usize,
     leaves: usize,
-) -> RowRead
+) -> Result<Row, Fault>
     requires { Room (names_in fields.now) (names_in events.now) (names_in statuses.now) words.old top leaves }
     ensures answer { result ≡ as_row s.now top leaves
         (rule (names_in fields.now) (names_in events.now) (names_in statuses.now) leaves 0 s.now) }
     ensures space { Stored (λ a. words_of a.condition) words.old words.new top
         (rule (names_in fields.now) (names_in events.now) (names_in statuses.now) leaves 0 s.now) }
 {
-    let b = sheet_trigger::read_start(s, events, statuses);
-    match b {
-        StartRead::Refused(k) => RowRead::Refused(k),
-        StartRead::At(a) => {
-            let behind = text::rest(s, a.bytes);
-            let e = read_ending(behind, fields, statuses, words, top, leaves, a.on);
-            match e {
-                CondRead::Refused(k) => RowRead::Refused(k),
-                CondRead::At(p) => RowRead::At(made(a, p, top)),
-            }
-        }
-    }
+    let a = sheet_trigger::read_start(s, events, statuses)?;
+    let behind = text::rest(s, a.bytes);
+    let p = read_ending(behind, fields, statuses, words, top, leaves, a.on)?;
+    Ok(made(a, p, top))
 }
 
 // A rule's line behind its key, where the conditions before it have `top` words and `leaves` leaves. Where it is refused, the words from `top` on are cleared.
+#[tactic(auto, using(crate::proofs::Rows::storing))]
 pub fn read_rule(
     s: &[u8],
     fields: &[u64],
@@ -159,7 +139,7 @@ pub fn read_rule(
     words: &mut [u64],
     top: usize,
     leaves: usize,
-) -> RowRead
+) -> Result<Row, Fault>
     requires { Room (names_in fields.now) (names_in events.now) (names_in statuses.now) words.old top leaves }
     ensures answer { result ≡ as_row s.now top leaves
         (rule (names_in fields.now) (names_in events.now) (names_in statuses.now) leaves 0 s.now) }
@@ -167,7 +147,7 @@ pub fn read_rule(
         (rule (names_in fields.now) (names_in events.now) (names_in statuses.now) leaves 0 s.now) }
 {
     let r = rule_row(s, fields, events, statuses, words, top, leaves);
-    let RowRead::Refused(_) = r else {
+    let Err(_) = r else {
         return r;
     };
     cond_item::clear(words, top);

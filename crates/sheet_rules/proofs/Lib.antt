@@ -1,4 +1,5 @@
 -- The scan over the rules' lines, all rules with the last line, and what callers use:
+pub mod Exits
 pub mod Scan
 pub mod Whole
 pub mod Callers

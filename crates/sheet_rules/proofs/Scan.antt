@@ -1,15 +1,15 @@
 -- Laws of the scan over the rules' lines: what is known at each turn, and how it ends.
 use Prim.Native.Nat.{ℕ, suc, ◌+◌, ◌-◌, ◌*◌, ◌^◌, ◌≤◌, ◌<◌}
 use mathlib.Core.Path.{◌≡◌, refl, sym, ◌∙◌, ap}
-use mathlib.Core.Bool.{Bool, true, false, not}
+use mathlib.Core.Bool.{Bool, true, false}
 use mathlib.Core.List.{List, [], ◌∷◌, ◌++◌}
 use native.Mathlib.Omega.{arith}
-use borrow.Author.Tests.{not-true, not-false}
 use native.Mathlib.Nat.{add-zero, zero-add}
 use lib.ListN.{length, drop, set, length-append}
 use lib.Seq.{drop-drop, sets, length-sets}
 use mir.Val.{Fits}
 use mir.Syntax.{w64}
+use Rattle.std.specs.Prelude.{Result, Ok, Err}
 use Rattle.meaning.specs.Text.{text, begins, joined}
 use Rattle.meaning.specs.Refusal.{FULL}
 use Rattle.meaning.specs.Limits.{rule_limit, leaf_limit}
@@ -27,11 +27,13 @@ use Rattle.sheet_tables.specs.declared.Rules.{Rules}
 use Rattle.sheet_tables.specs.Rules.{words_of, as_rule, no_rule, as_rows, all_words, as_rules}
 use Rattle.sheet_tables.proofs.RuleRows.{rows_count}
 use Rattle.sheet_rule.specs.declared.Row.{Row}
-use Rattle.sheet_rule.specs.declared.RowRead.{RowRead}
-use Rattle.sheet_rule.specs.declared.RowRead.TheVariants as R
+use Rattle.reply.specs.declared.Fault.{Fault}
+use Rattle.reply.specs.declared.Fault.TheVariants as F
+use Rattle.reply.specs.declared.Wrong.{Wrong}
+use Rattle.reply.specs.Faults.{wrong_of}
+use Rattle.text.specs.declared.Taken.{Taken}
 use Rattle.sheet_rule.specs.Answers.{Room, as_row, rule_space}
 use Rattle.sheet_rule.proofs.Callers.{Rowed, row_wrong, row_got}
-use Rattle.sheet_rules.specs.declared.RowsRead.{RowsRead}
 use Rattle.sheet_rules.specs.Parts.{RowsAs}
 
 -- A RULE MORE
@@ -148,29 +150,29 @@ module _ (fs es ss : List Name) (s was : List ℕ) where
     }
 
     module _ (v : List ℕ) (here : v ≡ drop at s) (b : Bool) (is : b ≡ begins (text "rule=") v) where
-      pub rows_over : not b ≡ true → RowsAs s was now (record { number = 0; at = at; rules = rules }) (lines rule_limit [] 0 s)
+      pub rows_over : b ≡ false → RowsAs s was now (Ok (record { value = rules; bytes = at })) (lines rule_limit [] 0 s)
       rows_over e =
-          let q : begins (text "rule=") (drop at s) ≡ false = rw here at (sym is ∙ not-true b e) in
+          let q : begins (text "rule=") (drop at s) ≡ false = rw here at (sym is ∙ e) in
           rw (g.same, section_over (text "rule=") (rule_row fs es ss) g.so (length g.so) (drop at s) (rule_limit - length g.so) q)
-          (record { number = refl; rules = g.table; rest = refl; line = refl; few = g.room; space = g.space })
+          (record { rules = g.table; rest = refl; line = refl; few = g.room; space = g.space })
 
-      module _ (e : not b ≡ false) where
+      module _ (e : b ≡ true) where
         key : begins (text "rule=") (drop at s) ≡ true
-        key = rw here at (sym is ∙ not-false b e)
+        key = rw here at (sym is ∙ e)
 
         rows_key : at + 5 ≤ length s
         rows_key = behind s 5 at g.within (begins_fits (text "rule=") (drop at s) key)
 
-        pub rows_full : rule_limit ≤ rules.count → RowsAs s was now (record { number = FULL; at = at; rules = rules }) (lines rule_limit [] 0 s)
+        pub rows_full : rule_limit ≤ rules.count → RowsAs s was now (Err (record { fault = F.Full; line = rules.count })) (lines rule_limit [] 0 s)
         rows_full h =
             let z : rule_limit - length g.so ≡ 0 = omega (arith, counted) in
             rw (g.same, z, section_full (text "rule=") (rule_row fs es ss) g.so (length g.so) (drop at s) key)
-            (record { number = refl; line = counted; kept = going_length })
+            (ap (wrong_of FULL) counted)
 
         pub rows_next : (k : ℕ) → k ≡ at + 5 → Fits w64 k
         rows_next k w = omega (arith, rows_key, g.big)
 
-        module _ (less : rules.count < rule_limit) (x : ℕ) (next : x ≡ at + 5) (u : List ℕ) (from : u ≡ drop x s) (r : RowRead)
+        module _ (less : rules.count < rule_limit) (x : ℕ) (next : x ≡ at + 5) (u : List ℕ) (from : u ≡ drop x s) (r : Result Row Fault)
             (told : r ≡ as_row u rules.top rules.leaves (rule fs es ss rules.leaves 0 u)) where
           -- the meaning's reader of this row
           read_row : (l : ℕ) (q : Got M.Rule) → rule fs es ss rules.leaves l u ≡ q
@@ -183,15 +185,18 @@ module _ (fs es ss : List Name) (s was : List ℕ) where
           left_room : 1 ≤ rule_limit - length g.so
           left_room = omega (arith, counted)
 
-          pub rows_wrong : (k : ℕ) → r ≡ R.Refused k → (now' : List ℕ) → length now' ≡ length now → (v : RowsRead) → v.number ≡ k
-              → v.rules.count ≡ rules.count → RowsAs s was now' v (lines rule_limit [] 0 s)
-          rows_wrong k f now' kept v i c =
+          pub rows_wrong : (e : Fault) → r ≡ Err e → (now' : List ℕ) → (w : Wrong) → w ≡ record { fault = e; line = rules.count }
+              → (v : Result (Taken Rules) Wrong) → v ≡ Err w → RowsAs s was now' v (lines rule_limit [] 0 s)
+          rows_wrong e f now' w z v y =
               let n = length g.so in
-              let e = read_row n _ (row_wrong fs es ss u rules.top rules.leaves r told k f n) in
-              rw (g.same, section_wrong (text "rule=") (rule_row fs es ss) g.so n (drop at s) key (rule_limit - n) left_room k n e)
-              (record { number = i; line = c ∙ counted; kept = kept ∙ going_length })
+              let k = row_wrong fs es ss u rules.top rules.leaves r told e f in
+              let d = read_row n _ (k.reads n) in
+              let i = k.is in
+              let j = counted in
+              let h : w ≡ wrong_of k.number n = cc in
+              rw (y, g.same, section_wrong (text "rule=") (rule_row fs es ss) g.so n (drop at s) key (rule_limit - n) left_room k.number n d) h
 
-          module _ (a : Row) (f : r ≡ R.At a) where
+          module _ (a : Row) (f : r ≡ Ok a) where
             taken : Rowed (rule fs es ss rules.leaves) u rules.top rules.leaves a
             taken = row_got fs es ss u rules.top rules.leaves r told a f
 
@@ -230,3 +235,5 @@ module _ (fs es ss : List Name) (s was : List ℕ) where
                       (omega (arith, g.small, h.few.1));
                   same = further ∙ rw (count_more g.so y, e1, e2);
                 }
+
+pub ruleset scanning = (going_start, going_length, going_kept, going_room, rows_next, rows_fits, rows_less, rows_row, rows_over, rows_full)

@@ -1,10 +1,11 @@
 -- From one section to the next: what the answers tell of all that was read so far, which each section goes on from.
-use Prim.Native.Nat.{ℕ, zero, suc, ◌+◌, ◌-◌, ◌≤◌}
-use mathlib.Core.Path.{◌≡◌, refl, sym, ◌∙◌, ap}
+use Prim.Native.Nat.{ℕ, ◌+◌, ◌-◌, ◌≤◌}
+use mathlib.Core.Path.{◌≡◌, refl, sym, ◌∙◌}
 use mathlib.Core.Bool.{Bool, true, false}
 use mathlib.Core.List.{List}
 use native.Mathlib.Omega.{arith}
 use lib.ListN.{length, drop, length-drop}
+use Rattle.std.specs.Prelude.{Result}
 use Rattle.meaning.specs.Text.{text, begins}
 use Rattle.meaning.specs.Refusal.{LINE}
 use Rattle.meaning.specs.Reading.{Got, got, wrong, Reader, after, ◌>>=◌, ◌>>◌, give, due, line_end}
@@ -20,9 +21,11 @@ use Rattle.theory.specs.Reading.Lines.{Within, built_within}
 use Rattle.theory.specs.Reading.Readers.{Yields, Ensures}
 use Rattle.theory.specs.Reading.Suffix.{Leaves, built_leaves, end_is}
 use Rattle.theory.specs.Papers.Formed.{WellHeads}
+use Rattle.reply.specs.declared.Wrong.{Wrong}
+use Rattle.reply.proofs.Faults.{number_again}
 use Rattle.sheet_tables.proofs.Tables.{heads_again}
-use Rattle.sheet_section.specs.declared.HeadsRead.{HeadsRead}
-use Rattle.sheet_section.specs.Answers.{as_heads_read, so_far}
+use Rattle.sheet_section.specs.declared.Above.{Above}
+use Rattle.sheet_section.specs.Answers.{as_above, so_far}
 use Rattle.sheet_section.specs.Held.{Started}
 
 -- each line took a byte at least, and the model's line one more
@@ -69,31 +72,24 @@ on_spread R f built s spread hd l t e = go (R 1 s) refl e
         absurd (omega arith)
 
 module _ (s : List ℕ) {Q : M.Heads → Type 0} {R : Reader M.Heads} (built : Built R) (good : Ensures R (λ hd. WellHeads hd × Q hd)) (spread : Spread s R)
-    (r : HeadsRead) (is : r ≡ as_heads_read s (R 1 s)) where
+    (r : Result Above Wrong) (is : r ≡ as_above s (R 1 s)) where
   told : (Started Q s r) × (so_far s r ≡ R 1 s)
-  told = go (R 1 s) refl (good.gives 1 s) (built_leaves built 1 s) (built_faulty built 1 s)
+  told = rw is (go (R 1 s) refl (good.gives 1 s) (built_leaves built 1 s) (built_faulty built 1 s))
     where
-      go : (y : Got M.Heads) → R 1 s ≡ y → Yields y (λ hd t. WellHeads hd × Q hd) → Leaves s y → Faulty y → (Started Q s r) × (so_far s r ≡ R 1 s)
+      go : (y : Got M.Heads) → R 1 s ≡ y → Yields y (λ hd t. WellHeads hd × Q hd) → Leaves s y → Faulty y
+          → (Started Q s (as_above s y)) × (so_far s (as_above s y) ≡ y)
       go (got hd l t) e yields end faulty =
           let w = yields.of hd l t refl in
-          let q : r ≡ as_heads_read s (got hd l t) = is ∙ ap (as_heads_read s) e in
-          let behind : drop (length s - length t) s ≡ t = end_is s t end in
-          let same : so_far s r ≡ got hd l t = rw (q, heads_again hd w.0, behind) in (
-            record {
-              is = is ∙ ap (as_heads_read s) (e ∙ sym same);
-              came = λ z. rw q record { sheet = hd; late = w.1; well = w.0; heads = refl; within = omega arith; lines = omega (arith, spread hd l t e) };
-            },
-            same ∙ sym e,
+          let behind : drop (length s - length t) s ≡ t = end_is s t end in (
+            record { sheet = hd; late = w.1; well = w.0; heads = refl; within = omega arith; lines = omega (arith, spread hd l t e) },
+            rw (heads_again hd w.0, behind),
           )
-      go (wrong zero l) e yields end faulty = absurd (omega (arith, faulty.0))
-      go (wrong (suc n) l) e yields end faulty =
-          let q : r ≡ as_heads_read s (wrong (suc n) l) = is ∙ ap (as_heads_read s) e in
-          (record { is = rw q; came = λ z. absurd (omega (arith, ap (λ (r : HeadsRead). r.number) q)) }, rw (q, e))
+      go (wrong n l) e yields end faulty = (tt, rw (number_again n (omega (arith, faulty)) (omega (arith, faulty))))
 
   -- the next section may begin
   pub reached : Started Q s r
   reached = told.0
 
   -- and what it reads goes on
-  pub read_on : (f : M.Heads → Reader M.Heads) (v : HeadsRead) → v ≡ as_heads_read s (after (so_far s r) f) → v ≡ as_heads_read s ((R >>= f) 1 s)
+  pub read_on : (f : M.Heads → Reader M.Heads) (v : Result Above Wrong) → v ≡ as_above s (after (so_far s r) f) → v ≡ as_above s ((R >>= f) 1 s)
   read_on f v e = e ∙ rw told.1

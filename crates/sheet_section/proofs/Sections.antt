@@ -1,198 +1,171 @@
--- A section, whatever its rows are: where it stands, what the name of its next row tells, and on to the next line.
+-- A section, whatever its rows are: where it stands, what the answer on its next row tells, and on to the next line.
 use Prim.Native.Nat.{ℕ, suc, ◌+◌, ◌-◌, ◌<◌, ◌≤◌}
 use mathlib.Core.Path.{◌≡◌, refl, sym, ◌∙◌, ap}
 use mathlib.Core.Bool.{Bool, true, false}
 use mathlib.Core.List.{List, [], ◌∷◌, ◌++◌}
-use native.Mathlib.Nat.{add_assoc, sub-eq-zero_of_le}
+use native.Mathlib.Nat.{sub-eq-zero_of_le}
 use native.Mathlib.Omega.{arith}
 use borrow.Author.Tests.{leb-true, leb-false}
 use lib.Dec.{leb}
-use lib.ListN.{length, take, drop, length-drop}
+use lib.ListN.{length, drop, length-drop}
 use lib.Seq.{drop-drop}
+use Rattle.std.specs.Prelude.{Result, Ok, Err, Option, Some, None}
+use Rattle.std.proofs.lemmas.Result.{IfOk-at_ok}
 use Rattle.meaning.specs.Text.{begins}
-use Rattle.meaning.specs.Refusal.{LINE, FULL}
-use Rattle.meaning.specs.Reading.{Got, got, wrong, Reader, after, give, line_end}
-use Rattle.meaning.specs.Name.{Name, new_name}
+use Rattle.meaning.specs.Refusal.{FULL}
+use Rattle.meaning.specs.Reading.{Got, wrong, Reader, after, give}
+use Rattle.meaning.specs.Name.{Name}
 use Rattle.meaning.specs.Sheet as M
 use Rattle.meaning.specs.Sheet.{all_names}
 use Rattle.meaning.specs.ReadSheet.{section}
-use Rattle.theory.specs.Reading.Answered.{Left, left_got, left_wrong}
-use Rattle.theory.specs.Reading.Built.{new_name_built}
-use Rattle.theory.specs.Reading.Faults.{never_zero}
+use Rattle.theory.specs.Reading.Answered.{Ends, Left, left_at, left_got, left_wrong}
+use Rattle.theory.specs.Reading.Piece.{piece_took, piece_refuses}
 use Rattle.theory.specs.Reading.Sections.{section_over, section_full, section_begun}
+use Rattle.reply.specs.declared.Fault.{Fault}
+use Rattle.reply.specs.declared.Wrong.{Wrong}
+use Rattle.reply.specs.Faults.{fault_of}
+use Rattle.reply.proofs.Faults.{fault_again}
+use Rattle.text.specs.declared.Taken.{Taken}
+use Rattle.text.specs.Pieces.{as_taken}
 use Rattle.text.proofs.Callers.{begins_fits}
 use Rattle.limits.specs.Sizes.{name_room}
 use Rattle.name.specs.declared.Name.{Name as Kept}
-use Rattle.name.specs.declared.NamePiece.{NamePiece}
-use Rattle.name.specs.declared.NamePiece.TheVariants as N
-use Rattle.name.specs.Names.{kept, name_of, names_in, put_in, Again}
-use Rattle.name.specs.Answers.{as_name}
-use Rattle.name.proofs.Callers.{new_name_wrong, new_name_got, new_name_number, new_name_again, new_name_fits}
+use Rattle.name.specs.Names.{kept, name_of, put_in, Again}
 use Rattle.name.proofs.Tables.{again_more}
-use Rattle.sheet_tables.specs.declared.Heads.{Heads}
 use Rattle.sheet_tables.specs.Heads.{as_heads, heads_of}
 use Rattle.sheet_tables.proofs.Tables.{heads_again}
-use Rattle.sheet_section.specs.declared.HeadsRead.{HeadsRead}
-use Rattle.sheet_section.specs.declared.RowName.{RowName}
-use Rattle.sheet_section.specs.declared.RowName.TheVariants as R
-use Rattle.sheet_section.specs.Answers.{as_heads_read, as_row, row_name, told, so_far}
-use Rattle.sheet_section.specs.Held.{Plain, Reached}
-use Rattle.sheet_section.proofs.Small.{told_fault}
-use Rattle.sheet_section.proofs.Rows.{Few, few_rows, plain_well, names_stored, names_so_far}
-
--- the end of a line, and what is read behind it
-abbrev pub closing : Reader M.Heads → Reader M.Heads
-closing k = λ l t. after (line_end LINE l t) (λ u. k)
+use Rattle.sheet_section.specs.declared.Above.{Above}
+use Rattle.sheet_section.specs.Answers.{as_above, keyed, as_row, so_far}
+use Rattle.sheet_section.specs.Held.{Plain, Reached, Started}
+use Rattle.sheet_section.proofs.Rows.{Few, few_rows, plain_well, names_stored}
 
 -- ANSWERS
 
 -- the sheet that was read
-pub read_got : {x : Got M.Heads} {s : List ℕ} {l at : ℕ} {hd : M.Heads} (h : Heads) → h ≡ as_heads hd → Left x (give hd) l at s
-    → record { number = 0; line = l; at = at; heads = h } ≡ as_heads_read s x
-read_got {s = s} {at = at} h is left =
-    let back : length s - (length s - at) ≡ at = omega (arith, left.within) in
-    rw (left.is, is, length-drop at s, back)
+pub read_got : {x : Got M.Heads} {s : List ℕ} {hd : M.Heads} (a : Above) → a.heads ≡ as_heads hd → Left x (give hd) a.line a.at s → Ok a ≡ as_above s x
+read_got {s = s} a is left =
+    let back : length s - (length s - a.at) ≡ a.at = omega (arith, left.within) in
+    rw (left.is, ← is, length-drop a.at s, back)
 
 -- a refusal of what was read before is handed on
-pub read_handed : (s : List ℕ) (r : HeadsRead) (x : Got M.Heads) (f : M.Heads → Reader M.Heads) → r ≡ as_heads_read s x → (r.number ≡ 0 → ⊥)
-    → r ≡ as_heads_read s (after x f)
-read_handed s r (got hd l t) f e ne = absurd (ne (rw e))
-read_handed s r (wrong n l) f e ne = e
-
--- where all before was read, what a section reads from there
-pub read_from : (s : List ℕ) (before : HeadsRead) (f : M.Heads → Reader M.Heads) → before.number ≡ 0
-    → after (so_far s before) f ≡ f (heads_of before.heads) before.line (drop before.at s)
-read_from s before f z = rw z
+pub read_handed : (s : List ℕ) (before : Result Above Wrong) (f : M.Heads → Reader M.Heads) (w : Wrong) → before ≡ Err w
+    → Err w ≡ as_above s (after (so_far s before) f)
+read_handed s before f w e = rw (e, fault_again w.fault)
 
 -- WHERE A SECTION STANDS
 
--- with the rows so far the tables are h, and of what is read in all the section is left, with room for so many rows
+-- with the rows so far the tables are those of a sheet, and of what is read in all the section is left, with room for so many rows
 module _ (key : List ℕ) (row : M.Heads → Reader M.Heads) (limit : ℕ) (size : M.Heads → ℕ) (Q : M.Heads → Type 0) where
-  pub record Going (s : List ℕ) (x : Got M.Heads) (h : Heads) (line at : ℕ) : Type 0 where
+  pub record Going (s : List ℕ) (x : Got M.Heads) (a : Above) : Type 0 where
     pub sheet : M.Heads
     pub late : Q sheet
-    pub is : h ≡ as_heads sheet
+    pub is : a.heads ≡ as_heads sheet
     pub plain : Plain sheet
-    pub counts : Few h
-    pub lines : line ≤ at
-    pub left : Left x (section key row (limit - size sheet) sheet) line at s
+    pub counts : Few a.heads
+    pub lines : a.line ≤ a.at
+    pub left : Left x (section key row (limit - size sheet) sheet) a.line a.at s
 
 -- no rows yet
-pub going_start : {key : List ℕ} {row : M.Heads → Reader M.Heads} {limit : ℕ} {size : M.Heads → ℕ} {P Q : M.Heads → Type 0} {s : List ℕ} {before : HeadsRead}
-    (f : M.Heads → Reader M.Heads) (c : Reached P s before)
-    → Q c.sheet → ((l : ℕ) (t : List ℕ) → f c.sheet l t ≡ section key row (limit - size c.sheet) c.sheet l t)
-    → Going key row limit size Q s (f (heads_of before.heads) before.line (drop before.at s)) before.heads before.line before.at
-going_start {s = s} {before = before} f c q e =
-    let plain = plain_well c.sheet c.well in
-    let again : heads_of before.heads ≡ c.sheet = ap heads_of c.heads ∙ heads_again c.sheet c.well in
-    record {
-      sheet = c.sheet;
-      late = q;
-      is = c.heads;
-      plain = plain;
-      counts = few_rows before.heads c.heads plain;
-      lines = c.lines;
-      left = record { within = c.within; is = rw (again, e before.line (drop before.at s)) };
-    }
+module _ {key : List ℕ} {row : M.Heads → Reader M.Heads} {limit : ℕ} {size : M.Heads → ℕ} {P Q : M.Heads → Type 0} {s : List ℕ} (f : M.Heads → Reader M.Heads)
+    (a : Above) (late : (hd : M.Heads) → P hd → Q hd)
+    (same : (hd : M.Heads) → P hd → (l : ℕ) (t : List ℕ) → f hd l t ≡ section key row (limit - size hd) hd l t) where
+  going_at : Reached P s a → Going key row limit size Q s (f (heads_of a.heads) a.line (drop a.at s)) a
+  going_at c =
+      let plain = plain_well c.sheet c.well in
+      let again : heads_of a.heads ≡ c.sheet = ap heads_of c.heads ∙ heads_again c.sheet c.well in
+      record {
+        sheet = c.sheet;
+        late = late c.sheet c.late;
+        is = c.heads;
+        plain = plain;
+        counts = few_rows a.heads c.heads plain;
+        lines = c.lines;
+        left = record { within = c.within; is = rw (again, same c.sheet c.late a.line (drop a.at s)) };
+      }
 
-module _ {key : List ℕ} {row : M.Heads → Reader M.Heads} {limit : ℕ} {size : M.Heads → ℕ} {Q : M.Heads → Type 0} {s : List ℕ} {x : Got M.Heads} {h : Heads}
-    {line at : ℕ}
-    (i : Going key row limit size Q s x h line at) where
+  pub going_start : (before : Result Above Wrong) → before ≡ Ok a → Started P s before → Going key row limit size Q s (after (so_far s before) f) a
+  going_start before is started = rw is (going_at (IfOk-at_ok (Reached P s) is started))
+
+module _ {key : List ℕ} {row : M.Heads → Reader M.Heads} {limit : ℕ} {size : M.Heads → ℕ} {Q : M.Heads → Type 0} {s : List ℕ} {x : Got M.Heads} {a : Above}
+    (i : Going key row limit size Q s x a) where
   -- what is left behind a further row
   abbrev pub next : M.Heads → Reader M.Heads
   next = section key row (limit - size i.sheet - 1)
 
-  -- a further row that begins with k bytes: n names stand before its own, which is kept as w
-  pub record Begun (n : ℕ) (w : Kept) (k : ℕ) : Type 0 where
-    pub room : size i.sheet < limit
-    pub count : n ≡ length (all_names i.sheet)
-    pub name : Name
-    pub number : w ≡ kept name
-    pub again : name_of (kept name) ≡ name
+  -- THE NEXT ROW, of which r reads what stands behind the key; f is what the code has for it
+  module _ {A B : Type 0} (f : A → B) (P : A → ℕ → Type 0) (put : A → M.Heads) where
+    -- a further row was read, and the sheet is read on
+    pub record Row (b : Taken B) : Type 0 where
+      pub value : A
+      pub bytes : ℕ
+      pub holds : P value bytes
+      pub room : size i.sheet < limit
+      pub same : b ≡ record { value = f value; bytes = length key + bytes }
+      pub left : Left x (next (put value)) (suc a.line) (a.at + b.bytes) s
 
-  -- and ends, with the sheet read on
-  pub going_more : {n : ℕ} {w : Kept} {k : ℕ} (b : Begun n w k) → n < name_room → (more : M.Heads) → Q more → size more ≡ size i.sheet + 1
-      → all_names more ≡ all_names i.sheet ++ (b.name ∷ [])
-      → (at' line' : ℕ) → at + 1 ≤ at' → line' ≡ line + 1 → Left x (next more) (suc line) at' s
-      → (h' : Heads) → (put_in h.names n w ≡ (as_heads more).names → h' ≡ as_heads more) → (Again (all_names more) → Plain more)
-      → Going key row limit size Q s x h' line' at'
-  going_more {n} {w} b small more late one names at' line' far z left h' stored plain =
-      let is = stored (names_stored h i.sheet i.is more b.name names (omega (arith, b.count)) n w b.count b.number) in
-      let good = plain (rw names (again_more (all_names i.sheet) b.name i.plain.names b.again)) in
-      let m : limit - size more ≡ limit - size i.sheet - 1 = omega arith in
-      let j : line' ≡ suc line = omega arith in
-      record {
-        sheet = more;
-        late = late;
-        is = is;
-        plain = good;
-        counts = few_rows h' is good;
-        lines = omega (arith, i.lines);
-        left = rw (m, j) left;
-      }
+    -- what the answer on a row tells
+    abbrev pub RowTold : Result (Option (Taken B)) Fault → Type 0
+    RowTold (Ok None) = Ok a ≡ as_above s x
+    RowTold (Ok (Some b)) = Row b
+    RowTold (Err e) = Err (record { fault = e; line = a.line }) ≡ as_above s x
 
-  -- THE NAME OF A ROW, by what is read behind it
-  module _ (tail : Name → (M.Heads → Reader M.Heads) → Reader M.Heads) where
-    -- what the answer on a row's name tells
-    abbrev pub RowTold : ℕ → RowName → Type 0
-    RowTold n (R.Left k) = told k line at h ≡ as_heads_read s x
-    RowTold n (R.Name w k) = (b : Begun n w k) × Left x (tail b.name next) line (at + k) s
+    module _ {r : Reader A} (ends : (u : List ℕ) → Ends suc P r u)
+        (rows : (g : M.Heads → Reader M.Heads) (l : ℕ) (t : List ℕ) → after (row i.sheet l t) g ≡ after (r l t) (λ v. g (put v)))
+        (most count : ℕ) (same : most - count ≡ limit - size i.sheet) where
+      abbrev u : List ℕ
+      u = drop (a.at + length key) s
 
-    -- rows begin with a new name
-    module _ (rows : (g : M.Heads → Reader M.Heads) (l : ℕ) (t : List ℕ) → after (row i.sheet l t) g ≡ after (new_name (all_names i.sheet) l t)
-        (λ w. tail w g))
-        (n : ℕ) (n-is : n ≡ length (all_names i.sheet)) where
-      abbrev used : List Name
-      used = all_names i.sheet
-
-      abbrev behind_key : List ℕ
-      behind_key = drop (at + length key) s
-
-      going_begun : begins key (drop at s) ≡ true → size i.sheet < limit
-          → Left x (λ l t. after (new_name used l t) (λ w. tail w next)) line (at + length key) s
-      going_begun here room =
+      begun : begins key (drop a.at s) ≡ true → size i.sheet < limit → Left x (λ l t. after (r l t) (λ v. next (put v))) a.line (a.at + length key) s
+      begun here room =
           record {
-            within = omega (arith, i.left.within, begins_fits key (drop at s) here, length-drop at s);
+            within = omega (arith, i.left.within, begins_fits key (drop a.at s) here, length-drop a.at s);
             is = i.left.is
-                ∙ rw (section_begun key row i.sheet line (drop at s) here (limit - size i.sheet) (omega arith), rows, drop-drop (length key) at s);
+                ∙ rw (section_begun key row i.sheet a.line (drop a.at s) here (limit - size i.sheet) (omega arith), rows, drop-drop (length key) a.at s);
           }
 
-      pub going_row : (most count : ℕ) → most - count ≡ limit - size i.sheet
-          → (v : List ℕ) (o : RowName) → v ≡ drop at s → o ≡ row_name key (leb most count) (take n (names_in h.names)) v → RowTold n o
-      unfolding row_name
-      going_row most count same v o from q =
-          let u = names_so_far h i.sheet i.is i.plain n n-is in
-          rw (q, u, from, drop-drop (length key) at s) (go (begins key (drop at s)) refl (leb most count) refl _ refl)
+      pub going_row : (v : List ℕ) (o : Result (Option (Taken B)) Fault) → v ≡ drop a.at s → o ≡ as_row f key (leb most count) r v → RowTold o
+      going_row v o from q = rw (q, from, drop-drop (length key) a.at s) (go (begins key (drop a.at s)) refl (leb most count) refl _ refl)
         where
-          go : (b : Bool) → begins key (drop at s) ≡ b → (f : Bool) → leb most count ≡ f → (p : NamePiece) → p ≡ as_name (new_name used 0 behind_key)
-              → RowTold n (as_row b f (length key) p)
-          go false e f z p read =
-              read_got h i.is record {
+          go : (b : Bool) → begins key (drop a.at s) ≡ b → (c : Bool) → leb most count ≡ c → (p : Result (Taken B) Fault) → p ≡ as_taken f u (r 0 u)
+              → RowTold (keyed b c (length key) p)
+          go false e c z p read =
+              read_got a i.is record {
                 within =
                     i.left.within;
-                is = i.left.is ∙ section_over key row i.sheet line (drop at s) (limit - size i.sheet) e;
+                is = i.left.is ∙ section_over key row i.sheet a.line (drop a.at s) (limit - size i.sheet) e;
               }
           go true e true z p read =
               let m = sym same ∙ sub-eq-zero_of_le (leb-true most count z) in
-              let full : x ≡ wrong FULL line = i.left.is ∙ rw (m, section_full key row i.sheet line (drop at s) e) in
+              let full : x ≡ wrong FULL a.line = i.left.is ∙ rw (m, section_full key row i.sheet a.line (drop a.at s) e) in
               rw full
-          go true e false z (N.Refused k) read =
-              let w = new_name_wrong (N.Refused k) used behind_key read k refl line in
-              let ne = never_zero (new_name_built used) line behind_key k line w in
-              sym (told_fault k line at h _ ne refl)
-              ∙ sym (ap (as_heads_read s) (left_wrong (new_name used) _ (going_begun e (omega (arith, leb-false most count z))) k w))
-          go true e false z (N.Name w k) read =
+          go true e false z (Err d) read =
+              let h = piece_refuses (λ v n. record { value = f v; bytes = n }) fault_of (ends u) (Err d) read d refl in
               let room : size i.sheet < limit = omega (arith, leb-false most count z) in
-              let number = new_name_number (N.Name w k) used behind_key read w k refl in
-              let fits = new_name_fits (N.Name w k) used behind_key read w k refl in (
-                record {
-                  room =
-                      room;
-                  count = n-is;
-                  name = take k behind_key;
-                  number = number;
-                  again = new_name_again (N.Name w k) used behind_key read w k refl;
-                },
-                rw (← add_assoc at (length key) k)
-                    (left_got (new_name used) _ (going_begun e room) _ _ k fits (new_name_got (N.Name w k) used behind_key read w k refl line)),
-              )
+              rw (left_wrong r (λ v. next (put v)) (begun e room) h.number (h.reads a.line))
+              (ap (λ (d : Fault). Err (record { fault = d; line = a.line })) h.is)
+          go true e false z (Ok b) read =
+              let h = piece_took (λ v n. record { value = f v; bytes = n }) fault_of (ends u) (Ok b) read b refl in
+              let room : size i.sheet < limit = omega (arith, leb-false most count z) in
+              let left = left_got r (λ v. next (put v)) (begun e room) h.value (suc a.line) h.bytes h.within (h.reads a.line) in
+              let sum : a.at + (length key + b.bytes) ≡ a.at + length key + h.bytes = omega (arith, ap (λ (c : Taken B). c.bytes) h.same) in
+              record {
+                value = h.value;
+                bytes = h.bytes;
+                holds = h.holds;
+                room = room;
+                same = ap (λ (c : Taken B). record { value = c.value; bytes = length key + c.bytes }) h.same;
+                left = left_at left (a.at + (length key + b.bytes)) sum;
+              }
+
+  -- on to the next line: the row is put into the tables, its name behind the n before it
+  pub going_more : (n : ℕ) (w : Kept) (name : Name) → n ≡ length (all_names i.sheet) → n < name_room → w ≡ kept name → name_of (kept name) ≡ name
+      → size i.sheet < limit → (more : M.Heads) → Q more → size more ≡ size i.sheet + 1 → all_names more ≡ all_names i.sheet ++ (name ∷ [])
+      → (b : Above) → b.line ≡ a.line + 1 → b.line ≤ b.at → Left x (next more) (suc a.line) b.at s
+      → (put_in a.heads.names n w ≡ (as_heads more).names → b.heads ≡ as_heads more) → (Again (all_names more) → Plain more)
+      → Going key row limit size Q s x b
+  going_more n w name count small number again room more late one names b line far left stored plain =
+      let is = stored (names_stored a.heads i.sheet i.is more name names (omega (arith, count)) n w count number) in
+      let good = plain (rw names (again_more (all_names i.sheet) name i.plain.names again)) in
+      let m : limit - size more ≡ limit - size i.sheet - 1 = omega arith in
+      let j : b.line ≡ suc a.line = omega arith in
+      record { sheet = more; late = late; is = is; plain = good; counts = few_rows b.heads is good; lines = far; left = rw (m, j) left }

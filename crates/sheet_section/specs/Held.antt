@@ -1,14 +1,14 @@
 -- What is known where a section begins.
-use Rattle.std.specs.Prelude.{ℕ, ◌+◌, ◌*◌, ◌≤◌, ◌≡◌, List, length}
+use Rattle.std.specs.Prelude.{ℕ, ◌+◌, ◌*◌, ◌≤◌, ◌≡◌, List, length, Result, IfOk}
 use Rattle.meaning.specs.Text.{joined}
 use Rattle.meaning.specs.Limits.{field_limit, event_limit, status_limit}
 use Rattle.meaning.specs.Sheet.{Heads, Event, all_names}
 use Rattle.theory.specs.Papers.Formed.{WellHeads}
 use Rattle.theory.specs.Lists.Padded.{padded}
+use Rattle.reply.specs.declared.Wrong.{Wrong}
 use Rattle.name.specs.Names.{Again}
 use Rattle.sheet_tables.specs.Heads.{as_heads}
-use Rattle.sheet_section.specs.declared.HeadsRead.{HeadsRead}
-use Rattle.sheet_section.specs.Answers.{as_heads_read, so_far}
+use Rattle.sheet_section.specs.declared.Above.{Above}
 
 -- the fields that an event carries, as the tables have them
 abbrev pub carried_row : Event → List ℕ
@@ -23,15 +23,14 @@ pub record Plain (hd : Heads) : Type 0 where
   pub few_statuses : length hd.stages + length hd.miles ≤ status_limit
 
 -- the sheet come to, of which Q says what is not yet read; each line before took a byte at least
-pub record Reached (Q : Heads → Type 0) (s : List ℕ) (r : HeadsRead) : Type 0 where
+pub record Reached (Q : Heads → Type 0) (s : List ℕ) (a : Above) : Type 0 where
   pub sheet : Heads
   pub late : Q sheet
   pub well : WellHeads sheet
-  pub heads : r.heads ≡ as_heads sheet
-  pub within : r.at ≤ length s
-  pub lines : r.line ≤ r.at
+  pub heads : a.heads ≡ as_heads sheet
+  pub within : a.at ≤ length s
+  pub lines : a.line ≤ a.at
 
 -- where a section begins: the sheet come to, or a refusal
-pub record Started (Q : Heads → Type 0) (s : List ℕ) (r : HeadsRead) : Type 0 where
-  pub is : r ≡ as_heads_read s (so_far s r)
-  pub came : r.number ≡ 0 → Reached Q s r
+abbrev pub Started : (Heads → Type 0) → List ℕ → Result Above Wrong → Type 0
+Started Q s before = IfOk before (Reached Q s)

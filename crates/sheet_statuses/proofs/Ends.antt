@@ -1,109 +1,134 @@
--- The end of a status's line: the returns of `under_end`, and what its answer tells.
+-- The end of a status's line: the returns of `stage_over` and of `under_end`, and what its answer tells.
 use Prim.Native.Nat.{ℕ, suc, ◌+◌, ◌-◌, ◌^◌, ◌<◌, ◌≤◌}
-use mathlib.Core.Path.{◌≡◌, refl, sym, ◌∙◌}
+use mathlib.Core.Path.{◌≡◌, refl, sym, ◌∙◌, ap, ap₂}
 use mathlib.Core.Bool.{Bool, true, false, not}
-use mathlib.Core.List.{List, [], ◌∷◌}
+use mathlib.Core.List.{List}
 use mathlib.Core.Option.{Option, none, some}
 use native.Mathlib.Omega.{arith}
 use borrow.Author.Tests.{not-true, not-false}
 use lib.ListN.{length, take, drop, length-take}
 use mir.Val.{Fits}
 use mir.Syntax.{w64}
+use Rattle.std.specs.Prelude.{Result, Ok, Err}
 use Rattle.meaning.specs.Text.{text, begins}
 use Rattle.meaning.specs.Refusal.{LINE}
-use Rattle.meaning.specs.Reading.{after, give, line_end}
+use Rattle.meaning.specs.Reading.{after, give, due}
 use Rattle.meaning.specs.Name.{Name, known}
 use Rattle.meaning.specs.ReadSheet.{under}
-use Rattle.theory.specs.Reading.Answered.{Ends, ends_after, ends_map, ensured_ends, inline_ends, line_ends, Size, bytes, fault, Kind, Left, left_got, left_wrong, left_answer}
+use Rattle.theory.specs.Reading.Answered.{Ends, here, Left, left_at, ends_after, ends_map, ensured_ends, inline_ends, line_ends}
 use Rattle.theory.specs.Reading.Built.{give_built, choose_built, bind_built, stands_built, known_built, line_fault}
-use Rattle.theory.specs.Reading.Fixed.{left_open, left_closed}
+use Rattle.theory.specs.Reading.Piece.{Next, piece_on, piece_off, off_answer, left_piece}
 use Rattle.theory.specs.Reading.Readers.{give_ensures, choose_ensures, bind_ensures, after_after}
 use Rattle.theory.specs.Papers.Names.{known_below}
-use Rattle.name.specs.declared.Known.{Known}
-use Rattle.name.specs.declared.Known.TheVariants as K
-use Rattle.name.specs.Answers.{as_known, known_fault}
-use Rattle.name.proofs.Callers.{known_wrong, known_got, known_place, known_fits}
 use Rattle.text.proofs.Callers.{begins_fits, stands_here, stands_not}
+use Rattle.reply.specs.declared.Fault.{Fault}
+use Rattle.reply.specs.Faults.{fault_of}
+use Rattle.text.specs.declared.Taken.{Taken}
+use Rattle.text.specs.Pieces.{as_length}
+use Rattle.name.proofs.Callers.{known_ends}
+use Rattle.name.specs.Answers.{as_known}
+use Rattle.name.proofs.Callers.{known_place}
 use Rattle.sheet_tables.specs.Heads.{under_code}
-use Rattle.sheet_statuses.specs.declared.Under.{Under}
-use Rattle.sheet_statuses.specs.declared.Under.TheVariants as U
-use Rattle.sheet_statuses.specs.Answers.{closed_at, as_under}
+use Rattle.sheet_section.proofs.Ends.{closing, end_off, end_on}
+use Rattle.sheet_statuses.specs.Answers.{as_under, over}
 
--- LF, by whether it stands there
-module _ (t : List ℕ) (b : Bool) (stage n : ℕ) (tested : b ≡ begins (text "\n") (drop n t)) where
-  pub closed_off : not b ≡ true → U.Refused LINE ≡ closed_at (begins (text "\n") (drop n t)) stage n
-  closed_off e = rw (← tested, not-true b e)
+abbrev as_place : ℕ → ℕ → Taken ℕ
+as_place i n = record { value = i; bytes = n }
 
-  pub closed_on : not b ≡ false → (m : ℕ) → m ≡ n + 1 → U.Stage stage m ≡ closed_at (begins (text "\n") (drop n t)) stage n
-  closed_on e m z = let y : m ≡ suc n = omega arith in rw (← tested, not-false b e, y)
+abbrev pub as_stage : Option ℕ → ℕ → Taken ℕ
+as_stage o n = record { value = under_code o; bytes = n }
 
-pub ruleset closing = (closed_off, closed_on)
+-- THE STAGE
+module _ (ns : List Name) (t : List ℕ) (b : Bool) (tested : b ≡ begins (text " ") t) where
+  pub over_bare : not b ≡ true → Ok (record { value = 0; bytes = 0 }) ≡ as_under t (over ns 0 t)
+  unfolding over
+  over_bare e =
+      let bare : Left (over ns 0 t) (give none) 0 0 t = record { within = omega arith; is = rw (stands_not (text " ") 0 t b tested (not-true b e)) } in
+      left_piece as_stage fault_of bare (record { value = 0; bytes = 0 }) refl
 
--- THE RETURNS
-
--- behind what tells the stage
-closed_answer : (ns : List Name) (t : List ℕ) (o : Option ℕ) (at : ℕ) → Left (under ns 0 t) (λ l t. after (line_end LINE l t) (λ u. give o)) 0 at t
-    → (r : Under) → r ≡ closed_at (begins (text "\n") (drop at t)) (under_code o) at → r ≡ as_under t (under ns 0 t)
-closed_answer ns t o at left r is = go (begins (text "\n") (drop at t)) refl
-  where
-    go : (b : Bool) → begins (text "\n") (drop at t) ≡ b → r ≡ as_under t (under ns 0 t)
-    go true e = is ∙ rw e (left_answer (λ o n. U.Stage (under_code o) n) U.Refused (left_closed (give o) left e) (suc at) (omega arith))
-    go false e = is ∙ rw (e, left_open (give o) left e)
-
-module _ (ns : List Name) (t : List ℕ) (b : Bool) (tested : b ≡ begins (32 ∷ []) (drop 0 t)) where
-  pub under_bare : not b ≡ true → (r : Under) → r ≡ closed_at (begins (text "\n") (drop 0 t)) 0 0 → r ≡ as_under t (under ns 0 t)
-  unfolding under
-  under_bare e r is = closed_answer ns t none 0 (record { within = omega arith; is = rw (stands_not (text " ") 0 t b tested (not-true b e)) }) r is
-
-  module _ (e : not b ≡ false) (v : List ℕ) (p : Known) (rest : v ≡ drop 1 t) (read : p ≡ as_known v (known ns 0 v)) where
-    piece : p ≡ as_known (drop 1 t) (known ns 0 (drop 1 t))
-    piece = rw (← rest) read
-
-    spaced : Left (under ns 0 t) (λ l u. after (known ns l u) (λ i l u. after (line_end LINE l u) (λ _. give (some i)))) 0 1 t
-    unfolding under
+  module _ (e : not b ≡ false) (v : List ℕ) (p : Result (Taken ℕ) Fault) (rest : v ≡ drop 1 t) (read : p ≡ as_known v (known ns 0 v)) where
+    spaced : Left (over ns 0 t) (λ l u. after (known ns l u) (λ i. give (some i))) 0 1 t
+    unfolding over
     spaced =
         record {
           within = begins_fits (text " ") t (sym tested ∙ not-false b e);
-          is = rw (stands_here (text " ") 0 t b tested (not-false b e))
-              (simp after_after);
+          is = rw (stands_here (text " ") 0 t b tested (not-false b e));
         }
 
-    pub under_unknown : (k : ℕ) → p ≡ K.Refused k → (f : ℕ) → f ≡ known_fault p → U.Refused f ≡ as_under t (under ns 0 t)
-    under_unknown k told f q = rw (left_wrong (known ns) _ spaced k (known_wrong p ns (drop 1 t) piece k told 0), q, told)
+    pub over_unknown : (d : Fault) → p ≡ Err d → Err d ≡ as_under t (over ns 0 t)
+    over_unknown d z = off_answer as_stage t (piece_off as_place fault_of (known_ends ns) (λ i. give (some i)) spaced v rest p read d z)
 
-    module _ (i n : ℕ) (told : p ≡ K.At i n) where
-      placed : Left (under ns 0 t) (λ l t. after (line_end LINE l t) (λ u. give (some i))) 0 (1 + n) t
-      placed = left_got (known ns) _ spaced i 0 n (known_fits p ns (drop 1 t) piece i n told) (known_got p ns (drop 1 t) piece i n told 0)
+    module _ (k : Taken ℕ) (z : p ≡ Ok k) where
+      placed : Next as_place (λ i n. (i < length ns) × (n ≤ Rattle.meaning.specs.Limits.name_bytes)) (over ns 0 t) (λ i. give (some i)) 0 1 t k
+      placed = piece_on as_place fault_of (known_ends ns) (λ i. give (some i)) spaced v rest p read k z
 
-      pub under_room : length t < 2 ^ 64 → Fits w64 (n + 1)
-      under_room h = omega (arith, placed.within)
+      value : k.value ≡ placed.value
+      value = ap (λ (k : Taken ℕ). k.value) placed.same
 
-      pub under_known : (u k : ℕ) → u ≡ i + 1 → k ≡ n + 1 → (r : Under) → r ≡ closed_at (begins (text "\n") (drop k t)) u k → r ≡ as_under t (under ns 0 t)
-      under_known u k y z r is =
-          let s : u ≡ suc i = omega arith in
-          let m : k ≡ 1 + n = omega arith in
-          closed_answer ns t (some i) (1 + n) placed r (rw (s, m) at is)
+      bytes : k.bytes ≡ placed.bytes
+      bytes = ap (λ (k : Taken ℕ). k.bytes) placed.same
+
+      pub over_room : length t < 2 ^ 64 → Fits w64 (k.bytes + 1)
+      over_room h = omega (arith, placed.left.within, bytes)
+
+      pub over_known : (r : Taken ℕ) → r ≡ record { value = k.value + 1; bytes = k.bytes + 1 } → Ok r ≡ as_under t (over ns 0 t)
+      over_known r is =
+          let x : k.value + 1 ≡ suc placed.value = omega (arith, value) in
+          let y : k.bytes + 1 ≡ 1 + placed.bytes = omega (arith, bytes) in
+          left_piece as_stage fault_of placed.left r (is ∙ ap₂ as_place x y)
 
 -- a place in a part of a table fits
-pub under_room_2 : (l : List Name) (from to : ℕ) (v : List ℕ) (p : Known) (i n : ℕ) → p ≡ as_known v (known (take (to - from) (drop from l)) 0 v)
-    → p ≡ K.At i n → Fits w64 to → Fits w64 (i + 1)
-under_room_2 l from to v p i n read told h = omega (arith, known_place p _ v read i n told, length-take (to - from) (drop from l))
+pub over_fits : (l : List Name) (from to : ℕ) (v : List ℕ) (p : Result (Taken ℕ) Fault) (k : Taken ℕ)
+    → p ≡ as_known v (known (take (to - from) (drop from l)) 0 v) → p ≡ Ok k → Fits w64 to → Fits w64 (k.value + 1)
+over_fits l from to v p k read z h = omega (arith, known_place p _ v read k z, length-take (to - from) (drop from l))
 
-pub ruleset undering = (under_bare, under_unknown, under_room, under_room_2, under_known)
+pub ruleset overing = (over_bare, over_unknown, over_room, over_known, over_fits)
 
--- WHAT THE ANSWER TELLS
-pub under_ends : (ns : List Name) (t : List ℕ) → Ends suc (λ o n. (under_code o ≤ length ns) × (1 ≤ n)) (under ns) t
-unfolding under
-under_ends ns t =
-    ends_after (λ o n. (under_code o ≤ length ns) × (1 ≤ n)) _ (inline_ends (stands_built (text " ")) t) λ b n _.
-    ends_after (λ o k. (under_code o ≤ length ns) × (1 ≤ n + k)) _
-    (ensured_ends (choose_built b (bind_built (known_built ns) λ i. give_built) give_built)
-    (choose_ensures b (bind_ensures (known_below ns) λ i h. give_ensures (omega arith)) (give_ensures (omega arith))) (drop n t)) λ o k h.
-    ends_map (λ _. o) (λ u i e. (h, omega arith)) (line_ends line_fault (drop k (drop n t)))
+over_ends : (ns : List Name) (t : List ℕ) → Ends here (λ o n. under_code o ≤ length ns) (over ns) t
+unfolding over
+over_ends ns t =
+    ends_after (λ o n. under_code o ≤ length ns) _ (inline_ends (stands_built (text " ")) t) λ b n _.
+    ensured_ends (choose_built b (bind_built (known_built ns) λ i. give_built) give_built)
+    (choose_ensures b (bind_ensures (known_below ns) λ i h. give_ensures (omega arith)) (give_ensures (omega arith))) (drop n t)
 
-abbrev under_size : Under → Size
-under_size (U.Stage u n) = bytes n
-under_size (U.Refused k) = fault k
+-- AND THE LINE'S END
+under_is : (ns : List Name) (l : ℕ) (t : List ℕ) → under ns l t ≡ after (over ns l t) (λ o. closing (give o))
+unfolding under over
+under_is ns l t = simp after_after
 
-abbrev pub under_kind : Kind (Option ℕ) Under
-under_kind = record { good = λ o n. U.Stage (under_code o) n; bad = U.Refused; size = under_size; of_good = λ o n. refl; of_bad = λ k. refl }
+pub under_ends : (ns : List Name) (t : List ℕ) → Ends suc (λ o n. under_code o ≤ length ns) (under ns) t
+under_ends ns t = go (ends_after (λ o n. under_code o ≤ length ns) (λ o. closing (give o)) (over_ends ns t) λ o n h.
+    ends_map {Q = λ o n. under_code o ≤ length ns} (λ _. o) (λ u k e. h) (line_ends line_fault (drop n t)))
+  where
+    go : Ends suc (λ o n. under_code o ≤ length ns) (λ l t. after (over ns l t) (λ o. closing (give o))) t
+        → Ends suc (λ o n. under_code o ≤ length ns) (under ns) t
+    go (Ends.found o n p m e) = Ends.found o n p m (λ l. under_is ns l t ∙ e l)
+    go (Ends.faulty k e) = Ends.faulty k (λ l. under_is ns l t ∙ e l)
+
+module _ (ns : List Name) (t : List ℕ) (p : Result (Taken ℕ) Fault) (read : p ≡ as_under t (over ns 0 t)) where
+  start : Left (under ns 0 t) (λ l t. after (over ns l t) (λ o. closing (give o))) 0 0 t
+  start = record { within = omega arith; is = under_is ns 0 t }
+
+  pub under_wrong : (d : Fault) → p ≡ Err d → Err d ≡ as_under t (under ns 0 t)
+  under_wrong d z = off_answer as_stage t (piece_off as_stage fault_of (over_ends ns) (λ o. closing (give o)) start t refl p read d z)
+
+  module _ (k : Taken ℕ) (z : p ≡ Ok k) (u : List ℕ) (d : Result ℕ Fault) (rest : u ≡ drop k.bytes t) (asked : d ≡ as_length u (due LINE (text "\n") 0 u)) where
+    told : Next as_stage (λ o n. under_code o ≤ length ns) (under ns 0 t) (λ o. closing (give o)) 0 0 t k
+    told = piece_on as_stage fault_of (over_ends ns) (λ o. closing (give o)) start t refl p read k z
+
+    left : Left (under ns 0 t) (closing (give told.value)) 0 k.bytes t
+    left = left_at told.left k.bytes (omega (arith, ap (λ (k : Taken ℕ). k.bytes) told.same))
+
+    pub under_open : (e : Fault) → d ≡ Err e → Err e ≡ as_under t (under ns 0 t)
+    under_open e y = off_answer as_stage t (end_off (give told.value) left u rest d asked e y)
+
+    pub under_room : (n : ℕ) → d ≡ Ok n → length t < 2 ^ 64 → Fits w64 (k.bytes + n)
+    under_room n y h = let o = end_on (give told.value) left u rest d asked n y in omega (arith, o.left.within, o.same)
+
+    pub under_read : (n : ℕ) → d ≡ Ok n → (r : Taken ℕ) → r ≡ record { value = k.value; bytes = k.bytes + n } → Ok r ≡ as_under t (under ns 0 t)
+    under_read n y r is =
+        let o = end_on (give told.value) left u rest d asked n y in
+        let far : k.bytes + n ≡ k.bytes + o.bytes = omega (arith, o.same) in
+        left_piece as_stage fault_of o.left r (is ∙ ap₂ as_place (ap (λ (k : Taken ℕ). k.value) told.same) far)
+
+pub ruleset undering = (under_wrong, under_open, under_room, under_read)

@@ -1,104 +1,92 @@
 -- The stage lines and the mile lines: the way into their section, each way out, and on to the next line.
-use Prim.Native.Nat.{ℕ, suc, ◌+◌, ◌-◌, ◌^◌, ◌<◌, ◌≤◌}
+use Prim.Native.Nat.{ℕ, ◌+◌, ◌-◌, ◌^◌, ◌<◌, ◌≤◌}
 use mathlib.Core.Path.{◌≡◌, refl, sym, ◌∙◌, ap}
 use mathlib.Core.Bool.{Bool, true, false, not, cond}
 use mathlib.Core.List.{List, [], ◌∷◌, ◌++◌, map, append-nil, append_assoc}
 use native.Mathlib.Omega.{arith}
 use lib.Dec.{leb}
 use lib.ListN.{length, take, drop, set, length-append, length-map}
-use lib.Seq.{drop-drop}
-use mir.Val.{Fits}
+use mir.Val.{Fits, bool_byte}
 use mir.Syntax.{w64, w8}
+use Rattle.std.specs.Prelude.{Result, Ok, Err, Option, Some, None}
 use Rattle.meaning.specs.Limits.{status_limit}
 use Rattle.meaning.specs.Reading.{Got, Reader, after, ◌>>=◌, give}
-use Rattle.meaning.specs.Name.{Name, new_name}
+use Rattle.meaning.specs.Name.{Name}
 use Rattle.meaning.specs.Sheet as M
-use Rattle.meaning.specs.Sheet.{Status, status_names, statuses, all_names}
-use Rattle.meaning.specs.ReadSheet.{under, status}
+use Rattle.meaning.specs.Sheet.{status_names, statuses, all_names}
+use Rattle.meaning.specs.ReadSheet as R
 use Rattle.theory.specs.Lists.Padded.{padded, mapped_set}
-use Rattle.theory.specs.Reading.Answered.{Next, left_on, left_off}
+use Rattle.theory.specs.Reading.Answered.{left_at}
 use Rattle.theory.specs.Reading.Readers.{after_after}
 use Rattle.theory.specs.Papers.Formed.{names_stage, names_mile}
 use Rattle.limits.specs.Sizes.{name_room}
-use Rattle.name.specs.declared.Name.{Name as Kept}
-use Rattle.name.specs.Names.{names_in, put_in, Again}
+use Rattle.reply.specs.declared.Fault.{Fault}
+use Rattle.reply.specs.declared.Wrong.{Wrong}
+use Rattle.text.specs.declared.Taken.{Taken}
+use Rattle.name.specs.Names.{kept, names_in, put_in, Again}
 use Rattle.sheet_tables.specs.declared.Heads.{Heads}
 use Rattle.sheet_tables.specs.Heads.{as_heads, under_code}
-use Rattle.sheet_section.specs.declared.HeadsRead.{HeadsRead}
-use Rattle.sheet_section.specs.declared.RowName.{RowName}
-use Rattle.sheet_section.specs.declared.RowName.TheVariants as R
-use Rattle.sheet_section.specs.Answers.{as_heads_read, refusal, row_name, told, so_far}
+use Rattle.sheet_section.specs.declared.Above.{Above}
+use Rattle.sheet_section.specs.Answers.{as_above, as_row, so_far}
 use Rattle.sheet_section.specs.Held.{Plain, Started}
-use Rattle.sheet_section.proofs.Rows.{tabled, counted, plain_well, stages_known}
-use Rattle.sheet_section.proofs.Sections.{read_handed, read_from, Going, going_start, next, going_more, RowTold, going_row}
-use Rattle.sheet_statuses.specs.declared.Under.{Under}
-use Rattle.sheet_statuses.specs.declared.Under.TheVariants as U
-use Rattle.sheet_statuses.specs.declared.Row.{Row}
-use Rattle.sheet_statuses.specs.declared.Row.TheVariants as W
-use Rattle.sheet_statuses.specs.Answers.{as_under, status_row, status_key, with_status, lines_of, Before, Behind}
-use Rattle.sheet_statuses.proofs.Ends.{under_ends, under_kind}
-use Rattle.sheet_statuses.proofs.OneRow.{row_is_left, row_is_off, row_is_on}
+use Rattle.sheet_section.proofs.Rows.{tabled, counted, names_so_far, stages_known}
+use Rattle.sheet_section.proofs.Sections.{read_handed, Going, going_start, Row, RowTold, going_row, going_more}
+use Rattle.sheet_statuses.specs.declared.Status.{Status}
+use Rattle.sheet_statuses.specs.Answers.{as_status, status, status_key, with_status, lines_of, Before, Behind}
+use Rattle.sheet_statuses.proofs.Line.{Known, status_ends}
 
 -- all that is read with them, and their rows
-abbrev whole : Bool → List ℕ → HeadsRead → Got M.Heads
+abbrev whole : Bool → List ℕ → Result Above Wrong → Got M.Heads
 whole miles s before = after (so_far s before) (lines_of miles)
 
 abbrev row_of : Bool → M.Heads → Reader M.Heads
-row_of miles hd = status hd >>= λ x. give (with_status miles hd x)
+row_of miles hd = R.status hd >>= λ x. give (with_status miles hd x)
 
 -- WHERE THE SECTION STANDS
-pub record Statuses (s key : List ℕ) (before : HeadsRead) (miles : Bool) (mile stage first : ℕ) (h : Heads) (at : ℕ) : Type 0 where
+pub record Statuses (s key : List ℕ) (before : Result Above Wrong) (miles : Bool) (a : Above) : Type 0 where
   pub small : length s < 2 ^ 64
-  pub since : first ≤ h.stages + h.miles
   pub key_is : key ≡ status_key miles
-  pub counts : (mile ≡ cond miles 1 0) × (stage ≡ cond (not miles) 1 0) × (stage + mile ≡ 1)
-  pub going : Going (status_key miles) (row_of miles) status_limit (λ hd. length (statuses hd)) (Behind miles) s (whole miles s before) h
-      (before.line + (h.stages + h.miles - first)) at
-
-one_of : (b : Bool) (m n : ℕ) → m ≡ cond b 1 0 → n ≡ cond (not b) 1 0 → n + m ≡ 1
-one_of false m n e f = omega arith
-one_of true m n e f = omega arith
+  pub going : Going (status_key miles) (row_of miles) status_limit (λ hd. length (statuses hd)) (Behind miles) s (whole miles s before) a
 
 -- what is left to be read behind them
 behind_is : (miles : Bool) (hd : M.Heads) → Before miles hd → Behind miles hd
 behind_is false hd late = late.1
 behind_is true hd late = tt
 
-pub statuses_first : (s : List ℕ) (before : HeadsRead) (miles : Bool) → Started (Before miles) s before → before.number ≡ 0
-    → Fits w64 (before.heads.stages + before.heads.miles)
-statuses_first s before miles start z =
-    let c = start.came z in
-    omega (arith, counted _ _ c.heads, (plain_well c.sheet c.well).few_statuses)
-
-pub statuses_start : (s key : List ℕ) (before : HeadsRead) (miles : Bool) (mile stage first : ℕ) → key ≡ status_key miles → Started (Before miles) s before
-    → before.number ≡ 0 → mile ≡ cond miles 1 0 → stage ≡ cond (not miles) 1 0 → first ≡ before.heads.stages + before.heads.miles → length s < 2 ^ 64
-    → Statuses s key before miles mile stage first before.heads before.at
-statuses_start s key before miles mile stage first k start z m o f small =
-    let c = start.came z in
-    let l : before.line + (before.heads.stages + before.heads.miles - first) ≡ before.line = omega arith in
+pub statuses_start : (s key : List ℕ) (before : Result Above Wrong) (miles : Bool) (a : Above) → key ≡ status_key miles → before ≡ Ok a
+    → Started (Before miles) s before → length s < 2 ^ 64 → Statuses s key before miles a
+statuses_start s key before miles a k is started small =
     record {
       small = small;
-      since = omega arith;
       key_is = k;
-      counts = (m, o, one_of miles mile stage m o);
-      going = rw (l, read_from s before (lines_of miles) z) (going_start (lines_of miles) c (behind_is miles c.sheet c.late) (λ l t. refl));
+      going =
+          going_start {key = status_key miles} {row = row_of miles} {limit = status_limit} {size = λ hd. length (statuses hd)} {P = Before miles}
+          {Q = Behind miles} (lines_of miles) a (behind_is miles) (λ hd h l t. refl) before is started;
     }
 
-pub statuses_handed : (s : List ℕ) (before : HeadsRead) (miles : Bool) → Started (Before miles) s before → (before.number ≡ 0 → ⊥)
-    → before ≡ as_heads_read s (whole miles s before)
-statuses_handed s before miles start = read_handed s before (so_far s before) (lines_of miles) start.is
-
--- behind the name
-abbrev tail : Bool → M.Heads → Name → (M.Heads → Reader M.Heads) → Reader M.Heads
-tail miles hd w g = λ l t. after (under (status_names hd.stages) l t) (λ o. g (with_status miles hd (record { name = w; under = o })))
+pub statuses_handed : (s : List ℕ) (before : Result Above Wrong) (miles : Bool) (w : Wrong) → before ≡ Err w → Err w ≡ as_above s (whole miles s before)
+statuses_handed s before miles = read_handed s before (lines_of miles)
 
 rows : (miles : Bool) (hd : M.Heads) (g : M.Heads → Reader M.Heads) (l : ℕ) (t : List ℕ)
-    → after (row_of miles hd l t) g ≡ after (new_name (all_names hd) l t) (λ w. tail miles hd w g)
-unfolding status
+    → after (row_of miles hd l t) g ≡ after (status (all_names hd) (status_names hd.stages) l t) (λ x. g (with_status miles hd x))
+unfolding R.status
 rows miles hd g l t = simp after_after
 
+status_told : {ks js : List ℕ} {us vs ms ns : List Name} → ks ≡ js → us ≡ vs → ms ≡ ns → (c : Bool) (t : List ℕ)
+    → as_row as_status ks c (status us ms) t ≡ as_row as_status js c (status vs ns) t
+status_told k u m c t = rw (k, u, m)
+
+-- a status counts as one
+counted_one : (b : Bool) → bool_byte b ≡ cond b 1 0
+counted_one false = refl
+counted_one true = refl
+
+sum_one : (b : Bool) → bool_byte (not b) + bool_byte b ≡ 1
+sum_one false = refl
+sum_one true = refl
+
 -- ONE MORE STATUS
-module _ (hd : M.Heads) (a : Status) where
+module _ (hd : M.Heads) (a : M.Status) where
   statuses_row : (m : Bool) → Behind m hd → statuses (with_status m hd a) ≡ statuses hd ++ (a ∷ [])
   unfolding statuses
   statuses_row false late = rw late (simp append-nil)
@@ -131,7 +119,7 @@ module _ (hd : M.Heads) (a : Status) where
   unfolding statuses
   size = length-append hd.stages hd.miles
 
-  abbrev code : Status → ℕ
+  abbrev code : M.Status → ℕ
   code s = under_code s.under
 
   set_more : length (statuses hd) < status_limit
@@ -150,156 +138,158 @@ module _ (hd : M.Heads) (a : Status) where
       rw (e, is, y, z, under_is, x-is ∙ sym size, set_more (omega (arith, size)), ← statuses_row true late, ← (counts_row true).0, ← (counts_row true).1)
 
 -- THE WAYS ON
-module _ (s key : List ℕ) (before : HeadsRead) (miles : Bool) (mile stage first : ℕ) (h : Heads) (at : ℕ)
-    (i : Statuses s key before miles mile stage first h at) where
-  abbrev line : ℕ
-  line = before.line + (h.stages + h.miles - first)
-
-  pub statuses_since : first ≤ h.stages + h.miles
-  statuses_since = i.since
-
-  pub statuses_number : Fits w64 line
-  statuses_number = omega (arith, i.going.lines, i.going.left.within, i.small)
-
-  abbrev count : ℕ
-  count = h.fields + h.events + (h.stages + h.miles)
+module _ (s key : List ℕ) (before : Result Above Wrong) (miles : Bool) (a : Above) (i : Statuses s key before miles a) where
+  abbrev h : Heads
+  h = a.heads
 
   abbrev hd : M.Heads
   hd = i.going.sheet
 
-  -- the sums fit
-  pub statuses_from : Fits w64 (h.fields + h.events)
-  statuses_from = omega (arith, i.going.counts)
+  abbrev count : ℕ
+  count = h.fields + h.events + (h.stages + h.miles)
 
-  pub statuses_so_far : Fits w64 (h.stages + h.miles)
-  statuses_so_far = omega (arith, i.going.counts)
+  -- the sums fit
+  pub statuses_fields : h.fields ≤ Rattle.meaning.specs.Limits.field_limit
+  statuses_fields = i.going.counts.0
+
+  pub statuses_events : h.events ≤ Rattle.meaning.specs.Limits.event_limit
+  statuses_events = i.going.counts.1
+
+  pub statuses_few : h.stages + h.miles ≤ status_limit
+  statuses_few = i.going.counts.2
+
+  pub statuses_both : Fits w64 (h.stages + h.miles)
+  statuses_both = omega (arith, i.going.counts)
+
+  pub statuses_above : Fits w64 (h.fields + h.events)
+  statuses_above = omega (arith, i.going.counts)
 
   pub statuses_count : Fits w64 count
   statuses_count = omega (arith, i.going.counts)
 
-  pub statuses_to : Fits w64 (h.fields + h.events + h.stages)
-  statuses_to = omega (arith, i.going.counts)
+  pub statuses_stages : Fits w64 (h.stages + bool_byte (not miles))
+  statuses_stages = omega (arith, i.going.counts, sum_one miles)
 
-  pub statuses_stages : Fits w64 (h.stages + stage)
-  statuses_stages = omega (arith, i.going.counts, i.counts)
-
-  pub statuses_miles : Fits w64 (h.miles + mile)
-  statuses_miles = omega (arith, i.going.counts, i.counts)
+  pub statuses_miles : Fits w64 (h.miles + bool_byte miles)
+  statuses_miles = omega (arith, i.going.counts, sum_one miles)
 
   size_is : length (statuses hd) ≡ h.stages + h.miles
   unfolding statuses
   size_is = omega (arith, length-append hd.stages hd.miles, counted _ _ i.going.is)
 
+  abbrev stages : List Name
+  stages = status_names hd.stages
+
+  few_stages : length stages ≤ status_limit
+  unfolding status_names
+  few_stages = omega (arith, length-map hd.stages (λ (x : M.Status). x.name), counted _ _ i.going.is, i.going.counts)
+
   -- by the answer on the row
-  module _ (v : List ℕ) (r : Row) (rest : v ≡ drop at s) (read : r ≡ status_row key (leb status_limit (h.stages + h.miles)) (names_in h.names) count
-      (h.fields + h.events) (h.fields + h.events + h.stages) v) where
-    abbrev named : List ℕ → RowName
-    named key = row_name key (leb status_limit (h.stages + h.miles)) (take count (names_in h.names)) v
-
-    row : RowTold i.going (tail miles hd) count (named key)
+  module _ (v : List ℕ) (o : Result (Option (Taken Status)) Fault) (rest : v ≡ drop a.at s)
+      (read : o ≡ as_row as_status key (leb status_limit (h.stages + h.miles)) (status (take count (names_in h.names))
+      (take h.stages (drop (h.fields + h.events)
+      (names_in h.names)))) v) where
+    row : RowTold i.going as_status (Known (length stages)) (with_status miles hd) o
     row =
-        going_row i.going (tail miles hd) (rows miles hd) count (counted _ _ i.going.is).4 status_limit (h.stages + h.miles)
-        (omega (arith, size_is)) v (named key) rest (ap named i.key_is)
-
-    abbrev stages : List Name
-    stages = status_names hd.stages
-
-    -- the line's end behind k bytes
-    behind : (k : ℕ) → drop k v ≡ drop (at + k) s
-    behind k = rw (rest, drop-drop k at s)
-
-    end : (k : ℕ) (p : Under) → as_under (drop k v) (under (take (h.fields + h.events + h.stages - (h.fields + h.events)) (drop (h.fields + h.events)
-        (names_in h.names))) 0 (drop k v)) ≡ p → p ≡ as_under (drop k v) (under stages 0 (drop k v))
-    end k p is =
         let c = counted _ _ i.going.is in
-        rw (stages_known h hd i.going.is i.going.plain (h.fields + h.events) (h.fields + h.events + h.stages) (omega arith) (omega arith)) at
-        (sym is)
+        let used = names_so_far h hd i.going.is i.going.plain count c.4 in
+        let m : h.fields + h.events + h.stages - (h.fields + h.events) ≡ h.stages = omega arith in
+        let known : take h.stages (drop (h.fields + h.events) (names_in h.names)) ≡ stages
+        = ap (λ n. take n (drop (h.fields + h.events) (names_in h.names))) (sym m)
+        ∙ stages_known h hd i.going.is i.going.plain (h.fields + h.events) (h.fields + h.events + h.stages) (omega arith) (omega arith) in
+        going_row i.going as_status (Known (length stages)) (with_status miles hd) (status_ends (all_names hd) stages) (rows miles hd) status_limit
+        (h.stages + h.miles) (omega (arith, size_is)) v o rest (read ∙ status_told i.key_is used known (leb status_limit (h.stages + h.miles)) v)
 
-    pub statuses_left : (k : ℕ) → r ≡ W.Left k → (l : ℕ) → l ≡ line → (q : HeadsRead) → q ≡ told k l at h → q ≡ as_heads_read s (whole miles s before)
-    statuses_left k e l z q is = rw (is, z) (rw (row_is_left _ _ _ _ _ _ v r read k e) at row)
+    pub statuses_wrong : (e : Fault) → o ≡ Err e → (l : ℕ) → l ≡ a.line → Err (record { fault = e; line = l }) ≡ as_above s (whole miles s before)
+    statuses_wrong e z l y = rw y (rw z at row)
 
-    pub statuses_wrong : (n : ℕ) → r ≡ W.Refused n → (l : ℕ) → l ≡ line → (q : HeadsRead) → q ≡ refusal n l → q ≡ as_heads_read s (whole miles s before)
-    statuses_wrong n e l z q is =
-        let (w, k, o, p) = row_is_off _ _ _ _ _ _ v r read n e in
-        let begun : RowTold i.going (tail miles hd) count (R.Name w k) = rw o at row in
-        is ∙ rw (z, left_off under_kind (under_ends stages) _ begun.1 (drop k v) (behind k) (U.Refused n) (end k (U.Refused n) p) n refl)
+    pub statuses_over : (x : Option (Taken Status)) → o ≡ Ok x → x ≡ None → Ok a ≡ as_above s (whole miles s before)
+    statuses_over x z y = rw (z, y) at row
 
-    module _ (w : Kept) (k u j : ℕ) (e : r ≡ W.Status w k u j) where
-      begun : RowTold i.going (tail miles hd) count (R.Name w k)
-      begun = rw (row_is_on _ _ _ _ _ _ v r read w k u j e).0 at row
+    module _ (x : Option (Taken Status)) (ok : o ≡ Ok x) (w : Taken Status) (some : x ≡ Some w) where
+      read_row : Row i.going as_status (Known (length stages)) (with_status miles hd) w
+      read_row = rw (ok, some) at row
 
-      placed : Next under_kind (λ o n. (under_code o ≤ length stages) × (1 ≤ n)) (whole miles s before)
-          (λ o. next i.going (with_status miles hd (record { name = begun.0.name; under = o }))) (suc line) (at + k) s (U.Stage u j) j
-      placed =
-          left_on under_kind (under_ends stages) _ begun.1 (drop k v) (behind k) (U.Stage u j) (end k (U.Stage u j)
-          (row_is_on _ _ _ _ _ _ v r read w k u j e).1) j refl
+      key_long : 1 ≤ length (status_key miles)
+      key_long = go miles
+        where
+          go : (b : Bool) → 1 ≤ length (status_key b)
+          go false = omega arith
+          go true = omega arith
 
-      code_is : u ≡ under_code placed.value
-      code_is = let same = placed.same in cc
+      bytes : w.bytes ≡ length (status_key miles) + read_row.bytes
+      bytes = ap (λ (w : Taken Status). w.bytes) read_row.same
 
-      pub statuses_room : (n : ℕ) → n ≡ at + k → Fits w64 n
-      statuses_room n z = omega (arith, begun.1.within, i.small)
+      status_is : w.value ≡ as_status read_row.value
+      status_is = ap (λ (w : Taken Status). w.value) read_row.same
 
-      pub statuses_end : (n : ℕ) → n ≡ at + k + j → Fits w64 n
-      statuses_end n z = omega (arith, placed.left.within, i.small)
+      code_is : w.value.under ≡ under_code read_row.value.under
+      code_is = ap (λ (x : Status). x.under) status_is
+
+      pub statuses_at : Fits w64 (a.at + w.bytes)
+      statuses_at = omega (arith, read_row.left.within, i.small)
+
+      pub statuses_number : Fits w64 (a.line + 1)
+      statuses_number = omega (arith, read_row.left.within, i.small, i.going.lines, bytes, key_long)
 
       pub statuses_index : h.stages + h.miles < status_limit
-      statuses_index = omega (arith, begun.0.room, size_is)
+      statuses_index = omega (arith, read_row.room, size_is)
 
       pub statuses_names : count < name_room
       statuses_names = omega (arith, statuses_index, i.going.counts)
 
-      pub statuses_less : status_limit - (h.stages + stage + (h.miles + mile)) < status_limit - (h.stages + h.miles)
-      statuses_less = omega (arith, statuses_index, i.counts)
+      pub statuses_less : status_limit - (h.stages + bool_byte (not miles) + (h.miles + bool_byte miles)) < status_limit - (h.stages + h.miles)
+      statuses_less = omega (arith, statuses_index, sum_one miles)
 
-      pub statuses_byte : Fits w8 u
-      unfolding status_names
-      statuses_byte =
-          omega (arith, code_is, placed.holds.0, length-map hd.stages (λ (x : Status). x.name), counted _ _ i.going.is, i.going.counts)
+      pub statuses_byte : Fits w8 w.value.under
+      statuses_byte = omega (arith, code_is, read_row.holds.1, few_stages)
 
-      pub statuses_more : (at' : ℕ) → at' ≡ at + k + j → (ns : List ℕ) → ns ≡ put_in h.names count w
-          → Statuses s key before miles mile stage first (tabled h.model h.fields h.events (h.stages + stage) (h.miles + mile) ns h.carried
-          h.carries (set h.under (h.stages + h.miles) u)) at'
-      statuses_more at' y ns p =
+      pub statuses_more : (line : ℕ) → line ≡ a.line + 1 → (at : ℕ) → at ≡ a.at + w.bytes → (ns : List ℕ) → ns ≡ put_in h.names count w.value.name
+          → Statuses s key before miles (record {
+            line = line;
+            at = at;
+            heads = tabled h.model h.fields h.events (h.stages + bool_byte (not miles)) (h.miles + bool_byte miles) ns h.carried h.carries
+                (set h.under (h.stages + h.miles) w.value.under);
+          })
+      statuses_more line line_is at at_is ns p =
           let g = i.going in
-          let a : Status = record { name = begun.0.name; under = placed.value } in
+          let x = read_row.value in
           let c = counted _ _ g.is in
           let x-is : h.stages + h.miles ≡ length hd.stages + length hd.miles = omega arith in
-          let one : length (statuses (with_status miles hd a)) ≡ length (statuses hd) + 1 = ap length (statuses_row hd a miles g.late) ∙ length-append
-          (statuses hd) (a ∷ []) in
+          let name_is : w.value.name ≡ kept x.name = ap (λ (x : Status). x.name) status_is in
+          let one : length (statuses (with_status miles hd x)) ≡ length (statuses hd) + 1 = ap length (statuses_row hd x miles g.late) ∙ length-append
+          (statuses hd) (x ∷ []) in
           record {
             small = i.small;
-            since = omega (arith, i.since);
             key_is = i.key_is;
-            counts = i.counts;
             going =
-                going_more g begun.0 statuses_names (with_status miles hd a) (behind_row hd a miles g.late) one (names_row hd a miles g.late) at'
-                (before.line + (h.stages + stage + (h.miles + mile) - first)) (omega (arith, placed.holds.1)) (omega (arith, i.since, i.counts))
-                (rw y placed.left) _
-                (λ e. heads_row hd a miles g.late h g.is u (h.stages + h.miles) mile stage code_is x-is statuses_index i.counts.0
-                i.counts.1 ns (p ∙ e))
-                (plain_row hd a miles g.late (omega (arith, x-is, statuses_index)) g.plain);
+                going_more g count w.value.name x.name c.4 statuses_names name_is read_row.holds.0 read_row.room (with_status miles hd x)
+                (behind_row hd x miles g.late) one (names_row hd x miles g.late) _ line_is (omega (arith, g.lines, bytes, key_long))
+                (left_at read_row.left at at_is)
+                (λ e. heads_row hd x miles g.late h g.is w.value.under (h.stages + h.miles) (bool_byte miles) (bool_byte (not miles)) code_is x-is
+                statuses_index
+                (counted_one miles) (counted_one (not miles)) ns (p ∙ e))
+                (plain_row hd x miles g.late (omega (arith, x-is, statuses_index)) g.plain);
           }
 
 pub ruleset statusing = (
   statuses_start,
   statuses_handed,
-  statuses_left,
-  statuses_room,
+  statuses_fields,
+  statuses_events,
+  statuses_few,
+  statuses_both,
+  statuses_above,
+  statuses_count,
+  statuses_stages,
+  statuses_miles,
+  statuses_wrong,
+  statuses_over,
+  statuses_at,
+  statuses_number,
   statuses_index,
   statuses_names,
   statuses_less,
-  statuses_wrong,
-  statuses_end,
-  statuses_first,
-  statuses_since,
-  statuses_number,
-  statuses_from,
-  statuses_so_far,
-  statuses_count,
-  statuses_to,
-  statuses_stages,
-  statuses_miles,
   statuses_byte,
   statuses_more,
 )

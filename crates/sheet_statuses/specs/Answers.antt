@@ -1,52 +1,35 @@
--- What the code answers for the end of a status's line, and stages and miles alike.
-use Rattle.std.specs.Prelude.{ℕ, suc, ◌-◌, Bool, true, false, List, take, drop}
-use Rattle.std.proofs.Math.Option.{Option}
+-- What the code answers for a status's line, and stages and miles alike.
+use Rattle.std.specs.Prelude.{ℕ, Bool, true, false, List, Result}
+use Rattle.std.proofs.Math.Option.{Option, none, some}
 use Rattle.meaning.specs.Text.{text}
-use Rattle.meaning.specs.Refusal.{LINE}
-use Rattle.meaning.specs.Reading.{Got, Reader}
-use Rattle.meaning.specs.Name as M
-use Rattle.meaning.specs.Sheet.{Heads, Status, with_stage, with_mile}
+use Rattle.meaning.specs.Reading.{Got, Reader, ◌>>=◌, choose, give, stands}
+use Rattle.meaning.specs.Name.{Name, new_name, known}
+use Rattle.meaning.specs.Sheet as M
+use Rattle.meaning.specs.Sheet.{Heads, with_stage, with_mile}
 use Rattle.meaning.specs.ReadSheet.{under, status_lines}
-use Rattle.theory.specs.Reading.Answer.{as_read}
 use Rattle.theory.specs.Papers.Formed.{NoStages, NoMiles}
-use Rattle.name.specs.declared.Name.{Name}
+use Rattle.reply.specs.declared.Fault.{Fault}
+use Rattle.text.specs.declared.Taken.{Taken}
+use Rattle.text.specs.Pieces.{as_taken}
+use Rattle.name.specs.Names.{kept}
 use Rattle.sheet_tables.specs.Heads.{under_code}
-use Rattle.sheet_section.specs.declared.RowName.{RowName}
-use Rattle.sheet_section.specs.declared.RowName.TheVariants as R
-use Rattle.sheet_section.specs.Answers.{row_name}
-use Rattle.sheet_statuses.specs.declared.Under.{Under}
-use Rattle.sheet_statuses.specs.declared.Under.TheVariants as U
-use Rattle.sheet_statuses.specs.declared.Row.{Row}
-use Rattle.sheet_statuses.specs.declared.Row.TheVariants as W
+use Rattle.sheet_statuses.specs.declared.Status.{Status}
 
--- the line's end behind n bytes, or LINE where another byte stands
-abbrev pub closed_at : Bool → ℕ → ℕ → Under
-closed_at true stage n = U.Stage stage (suc n)
-closed_at false stage n = U.Refused LINE
+-- a parent or home, or none, in one number
+abbrev pub as_under : List ℕ → Got (Option ℕ) → Result (Taken ℕ) Fault
+as_under = as_taken under_code
 
--- a parent or home, or none, in one number, and the bytes up to the line's end
-abbrev pub as_under : List ℕ → Got (Option ℕ) → Under
-as_under = as_read (λ o n. U.Stage (under_code o) n) U.Refused
+-- a space and one of the stages, or nothing
+unfoldable pub over : List Name → Reader (Option ℕ)
+over stages = stands (text " ") >>= λ more. choose more (known stages >>= λ i. give (some i)) (give none)
 
--- the number of a refused end
-abbrev pub under_fault : Under → ℕ
-under_fault (U.Stage u n) = 0
-under_fault (U.Refused k) = k
+-- a status
+abbrev pub as_status : M.Status → Status
+as_status x = record { name = kept x.name; under = under_code x.under }
 
--- a row whose name took k bytes, by its end
-abbrev pub ended : Name → ℕ → Under → Row
-ended w k (U.Stage u j) = W.Status w k u j
-ended w k (U.Refused n) = W.Refused n
-
--- a row, by its name, and its end behind so many bytes
-abbrev pub joined : RowName → (ℕ → Under) → Row
-joined (R.Name w k) f = ended w k (f k)
-joined (R.Left k) f = W.Left k
-
--- the next row of a section: a name that is none of the first n, and behind it a stage or none, and the line's end
-unfoldable pub status_row : List ℕ → Bool → List M.Name → ℕ → ℕ → ℕ → List ℕ → Row
-status_row key full names n from to t =
-    joined (row_name key full (take n names) t) (λ k. as_under (drop k t) (under (take (to - from) (drop from names)) 0 (drop k t)))
+-- a status, behind its key: a name that is not used yet, and what ends its line
+abbrev pub status : List Name → List Name → Reader M.Status
+status used stages = new_name used >>= λ n. under stages >>= λ p. give (record { name = n; under = p })
 
 -- STAGES AND MILES are read alike: `true` for miles
 
@@ -55,7 +38,7 @@ status_key false = text "stage="
 status_key true = text "mile="
 
 -- one more of them
-abbrev pub with_status : Bool → Heads → Status → Heads
+abbrev pub with_status : Bool → Heads → M.Status → Heads
 with_status false = with_stage
 with_status true = with_mile
 

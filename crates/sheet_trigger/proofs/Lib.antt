@@ -1,5 +1,4 @@
--- The pieces of a rule's line up to ` if `, and what callers use:
+-- The pieces of a rule's line up to ` if `:
 pub mod Pieces
-pub mod Callers
 -- No second answer fits:
 pub mod Only

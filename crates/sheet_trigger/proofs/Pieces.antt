@@ -1,7 +1,7 @@
 -- Laws of the pieces of a rule's line: its sign, a trigger, and all before ` if `.
 use Prim.Native.Nat.{ℕ, ◌+◌, ◌-◌, ◌^◌, ◌≤◌, ◌<◌}
 use mathlib.Core.Path.{◌≡◌, refl, sym, ◌∙◌, ap}
-use mathlib.Core.Bool.{Bool, true, false, not, cond, ◌||◌, false≢true}
+use mathlib.Core.Bool.{Bool, true, false, not, cond}
 use mathlib.Core.List.{List, []}
 use native.Mathlib.Omega.{arith}
 use borrow.Author.Tests.{not-true, not-false}
@@ -9,6 +9,9 @@ use lib.ListN.{length, take, drop}
 use lib.Seq.{drop-drop, take-length}
 use mir.Val.{Fits}
 use mir.Syntax.{w8, w64}
+use Rattle.std.specs.Prelude.{Option, Some, None, Result, Ok, Err}
+use Rattle.std.specs.Result.{IsErr, IsErrAnd}
+use Rattle.std.proofs.lemmas.Result.{err_from_is_err_and}
 use Rattle.meaning.specs.Text.{text, begins}
 use Rattle.meaning.specs.Refusal.{LINE}
 use Rattle.meaning.specs.Limits.{status_limit}
@@ -17,80 +20,87 @@ use Rattle.meaning.specs.Name.{Name, known}
 use Rattle.meaning.specs.Sheet as M
 use Rattle.meaning.specs.Sheet.{Sign, plus, minus}
 use Rattle.meaning.specs.ReadSheet.{signs, event_trigger, trigger, Begun, change, begun}
-use Rattle.theory.specs.Reading.Answer.{as_read}
 use Rattle.theory.specs.Reading.BuiltPapers.{trigger_built, change_built}
 use Rattle.theory.specs.Reading.Readers.{Yields, Ensures, any_ensures, give_ensures}
 use Rattle.theory.specs.Papers.Names.{known_below}
 use Rattle.theory.specs.Reading.Told.{Any, took}
-use Rattle.theory.specs.Reading.Answered.{behind, inline_ends, ensured_ends, bytes, fault, Kind, Left, left_start, left_at, left_answer, left_got, Next, left_on, left_off}
+use Rattle.theory.specs.Reading.Answered.{behind, inline_ends, ensured_ends, Left, left_start, left_at, left_got}
+use Rattle.theory.specs.Reading.Piece.{as_piece, left_piece, off_answer, Next, piece_on, piece_off}
 use Rattle.text.proofs.Callers.{begins_fits, stands_here, stands_not}
+use Rattle.text.specs.declared.Taken.{Taken}
+use Rattle.reply.specs.declared.Fault.{Fault}
+use Rattle.reply.specs.declared.Fault.TheVariants as F
+use Rattle.reply.specs.Faults.{fault_of}
 use Rattle.name.specs.Answers.{as_known}
-use Rattle.name.specs.declared.Known.{Known}
-use Rattle.name.specs.declared.Known.TheVariants as K
-use Rattle.name.proofs.Callers.{known_got, known_wrong, known_fits, known_few}
+use Rattle.name.proofs.Callers.{known_got, known_fits}
 use Rattle.sheet_tables.specs.declared.Trigger.{Trigger}
-use Rattle.sheet_tables.specs.declared.Trigger.TheVariants.{Always, Event, Rise, Fall}
-use Rattle.sheet_trigger.specs.declared.TriggerRead.{TriggerRead}
-use Rattle.sheet_trigger.specs.declared.TriggerRead.TheVariants as T
+use Rattle.sheet_tables.specs.declared.Trigger.TheVariants.{Always, Event}
 use Rattle.sheet_trigger.specs.declared.Start.{Start}
-use Rattle.sheet_trigger.specs.declared.StartRead.{StartRead}
-use Rattle.sheet_trigger.specs.declared.StartRead.TheVariants as S
 use Rattle.sheet_trigger.specs.Answers.{start_at, as_start}
 use Rattle.sheet_tables.specs.Rules.{is_plus, as_trigger}
-use Rattle.sheet_trigger.specs.Parts.{moved, trigger_at, as_trigger_read}
+use Rattle.sheet_trigger.specs.Parts.{as_sign, moved, as_triggered}
+
+-- the exit of a `?`: what was refused is handed on
+pub handed : {B E : Type 0} {r v : Result B E} {Q : E → Type 0} → IsErr r × IsErrAnd r Q → ((e : E) → Q e → Err e ≡ v) → r ≡ v
+handed {r = r} h g = let p = err_from_is_err_and r h.1 in rw p.1 (g p.0 p.2)
 
 -- NAMES OF A TABLE: all of it
 pub known_all : (ns : List Name) (s : List ℕ) (n : ℕ) → n ≡ length ns
-    → (p : Known) → p ≡ as_known s (known (take (n - 0) (drop 0 ns)) 0 s) → p ≡ as_known s (known ns 0 s)
+    → (p : Result (Taken ℕ) Fault) → p ≡ as_known s (known (take (n - 0) (drop 0 ns)) 0 s) → p ≡ as_known s (known ns 0 s)
 known_all ns s n h p e =
     let z : n - 0 ≡ length ns = omega arith in
     rw (z, take-length ns) at e
 
 -- a place of so short a table fits a byte
-pub place_fits : (ns : List Name) (s u : List ℕ) (p : Known) → p ≡ as_known s (known ns 0 u) → (x n : ℕ) → p ≡ K.At x n → length ns ≤ status_limit → Fits w8 x
-place_fits ns s u p is x n e h = go (known ns 0 u) ((known_below ns).gives 0 u) is
+pub place_fits : (ns : List Name) (s u : List ℕ) (p : Result (Taken ℕ) Fault) → p ≡ as_known s (known ns 0 u) → (v : Taken ℕ) → p ≡ Ok v
+    → length ns ≤ status_limit → Fits w8 v.value
+place_fits ns s u p is v e h = go (known ns 0 u) ((known_below ns).gives 0 u) is
   where
-    go : (g : Got ℕ) → Yields g (λ i v. i < length ns) → p ≡ as_known s g → Fits w8 x
-    go (got i l v) y q = let z : x ≡ i = cc in omega (arith, y.of i l v refl)
-    go (wrong k l) y q = let z : ◌≡◌ {A = ℕ} 0 1 = cc in absurd (omega arith)
+    go : (g : Got ℕ) → Yields g (λ i v. i < length ns) → p ≡ as_known s g → Fits w8 v.value
+    go (got i l t) y q =
+        let z : ◌≡◌ {A = Result (Taken ℕ) Fault} (Ok v) (Ok (record { value = i; bytes = length s - length t })) = sym e ∙ q in
+        let x : v.value ≡ i = cc in
+        omega (arith, y.of i l t refl)
+    go (wrong k l) y q = let z : ◌≡◌ {A = Result (Taken ℕ) Fault} (Ok v) (Err (fault_of k)) = sym e ∙ q in cc
 
 -- what stands behind the first byte of s, told from its start
-module _ (s : List ℕ) (t : List Name) (some : 1 ≤ length s) (u : List ℕ) (at : u ≡ drop 1 s) (p : Known) (is : p ≡ as_known u (known t 0 u)) where
+module _ (s : List ℕ) (t : List Name) (some : 1 ≤ length s) (u : List ℕ) (at : u ≡ drop 1 s) (p : Result (Taken ℕ) Fault)
+    (is : p ≡ as_known u (known t 0 u)) where
   behind_is : p ≡ as_known (drop 1 s) (known t 0 (drop 1 s))
   behind_is = rw at at is
 
-  pub behind_refused : (k : ℕ) → p ≡ K.Refused k → p ≡ as_known s (known t 0 (drop 1 s))
-  behind_refused k e = e ∙ rw (known_wrong p t (drop 1 s) behind_is k e 0)
-
-  module _ (x n : ℕ) (e : p ≡ K.At x n) where
-    pub behind_fits : (m : ℕ) → m ≡ n + 1 → Fits w64 m
-    behind_fits m z = omega (arith, known_few p t (drop 1 s) behind_is x n e)
-
-    pub behind_read : (m : ℕ) → m ≡ n + 1 → K.At x m ≡ as_known s (known t 0 (drop 1 s))
-    behind_read m z =
-        let h = behind s n 1 some (known_fits p t (drop 1 s) behind_is x n e) in
-        rw (known_got p t (drop 1 s) behind_is x n e 0, drop-drop n 1 s, took s (1 + n) h) (ap (λ i. K.At x i) (omega arith))
-
-pub ruleset behinding = (behind_refused, behind_fits, behind_read)
+  pub behind_read : (v : Taken ℕ) → p ≡ Ok v → (m : ℕ) → m ≡ v.bytes + 1 → Ok (record { value = v.value; bytes = m }) ≡ as_known s (known t 0 (drop 1 s))
+  behind_read v told m z =
+      let h = behind s v.bytes 1 some (known_fits p t (drop 1 s) behind_is v told) in
+      let w : m ≡ 1 + v.bytes = omega arith in
+      rw (w, known_got p t (drop 1 s) behind_is v told 0, drop-drop v.bytes 1 s, took s (1 + v.bytes) h)
 
 -- what the answer on a name becomes, where a value is made of its place
-module _ {A B : Type 0} (good : A → ℕ → B) (bad : ℕ → B) (g : ℕ → A) where
-  abbrev becomes : Known → B
-  becomes (K.At x n) = good (g x) n
-  becomes (K.Refused k) = bad k
+module _ {A B : Type 0} (good : A → ℕ → B) (g : ℕ → A) where
+  abbrev becomes : Result (Taken ℕ) Fault → Result B Fault
+  becomes (Ok v) = Ok (good (g v.value) v.bytes)
+  becomes (Err e) = Err e
 
-  made : (s : List ℕ) (p : Known) (z : Got ℕ) → p ≡ as_known s z → becomes p ≡ as_read good bad s (after z (λ x. give (g x)))
+  made : (s : List ℕ) (p : Result (Taken ℕ) Fault) (z : Got ℕ) → p ≡ as_known s z → becomes p ≡ as_piece good fault_of s (after z (λ x. give (g x)))
   made s p (got x l t) e = rw e
   made s p (wrong n l) e = rw e
 
 -- SIGNS
-pub signed_plus : (a b c : Bool) → a ≡ b → a ≡ true → a ≡ (b || c)
-signed_plus a b c e t = t ∙ rw (← e, t)
+module _ (s : List ℕ) (a : Bool) (up : a ≡ begins (text "+") s) where
+  pub sign_plus : a ≡ true → Some true ≡ as_sign (one_of LINE signs 0 s)
+  unfolding one_of stands
+  sign_plus t = rw (← up, t)
 
-pub signed_minus : (a b c r : Bool) → a ≡ b → a ≡ false → r ≡ c → r ≡ (b || c)
-signed_minus a b c r e f z = rw (← e, f) z
+  module _ (f : a ≡ false) (b : Bool) (down : b ≡ begins (text "-") s) where
+    pub sign_minus : b ≡ true → Some false ≡ as_sign (one_of LINE signs 0 s)
+    unfolding one_of stands
+    sign_minus t = rw (← up, f, ← down, t)
 
-pub ruleset signing = (signed_plus, signed_minus)
+    pub sign_none : b ≡ false → None ≡ as_sign (one_of LINE signs 0 s)
+    unfolding one_of stands
+    sign_none t = rw (← up, f, ← down, t)
+
+pub ruleset signing = (sign_plus, sign_minus, sign_none)
 
 abbrev sign_of : Bool → Sign
 sign_of b = cond b plus minus
@@ -111,26 +121,34 @@ record Unsigned (s : List ℕ) : Type 0 where
   change : (ss : List Name) → change ss 0 s ≡ wrong LINE 0
   trigger : (es ss : List Name) → trigger es ss 0 s ≡ event_trigger es 0 s
 
-module _ (s : List ℕ) where
-  signed : (b c : Bool) → b ≡ begins (text "+") s → c ≡ begins (text "-") s → (b || c) ≡ true → Signed s b
+module _ (s : List ℕ) (p : Option Bool) (is : p ≡ as_sign (one_of LINE signs 0 s)) where
+  signed : (b : Bool) → p ≡ Some b → Signed s b
   unfolding one_of stands change trigger
-  signed true c e f h = record { some = begins_fits (text "+") s (sym e); change = λ ss. rw (← e); trigger = λ es ss. rw (← e) }
-  signed false true e f h = record { some = begins_fits (text "-") s (sym f); change = λ ss. rw (← e, ← f); trigger = λ es ss. rw (← e, ← f) }
-  signed false false e f h = absurd (false≢true h)
+  signed b told = go (begins (text "+") s) (begins (text "-") s) refl refl
+    where
+      go : (a c : Bool) → a ≡ begins (text "+") s → c ≡ begins (text "-") s → Signed s b
+      go true c e f =
+          let z : p ≡ Some true = rw (← e) at is in
+          let y : b ≡ true = cc in
+          rw y (record { some = begins_fits (text "+") s (sym e); change = λ ss. rw (← e); trigger = λ es ss. rw (← e) })
+      go false true e f =
+          let z : p ≡ Some false = rw (← e, ← f) at is in
+          let y : b ≡ false = cc in
+          rw y (record { some = begins_fits (text "-") s (sym f); change = λ ss. rw (← e, ← f); trigger = λ es ss. rw (← e, ← f) })
+      go false false e f =
+          let z : p ≡ None = rw (← e, ← f) at is in
+          cc
 
-  unsigned : (b c : Bool) → b ≡ begins (text "+") s → c ≡ begins (text "-") s → (b || c) ≡ false → Unsigned s
+  unsigned : p ≡ None → Unsigned s
   unfolding one_of stands change trigger event_trigger
-  unsigned true c e f h = absurd (false≢true (sym h))
-  unsigned false true e f h = absurd (false≢true (sym h))
-  unsigned false false e f h = record { change = λ ss. rw (← e, ← f); trigger = λ es ss. rw (← e, ← f) }
+  unsigned none = go (begins (text "+") s) (begins (text "-") s) refl refl
+    where
+      go : (a c : Bool) → a ≡ begins (text "+") s → c ≡ begins (text "-") s → Unsigned s
+      go true c e f = let z : p ≡ Some true = rw (← e) at is in cc
+      go false true e f = let z : p ≡ Some false = rw (← e, ← f) at is in cc
+      go false false e f = record { change = λ ss. rw (← e, ← f); trigger = λ es ss. rw (← e, ← f) }
 
 -- TRIGGERS
-pub moves_up : (b : Bool) (x : ℕ) → b ≡ true → Rise x ≡ moved b x
-moves_up b x e = rw e
-
-pub moves_down : (b : Bool) (x : ℕ) → b ≡ false → Fall x ≡ moved b x
-moves_down b x e = rw e
-
 move_of_lem : (b : Bool) (x : ℕ) → moved b x ≡ as_trigger (move_of b x)
 move_of_lem true x = refl
 move_of_lem false x = refl
@@ -139,81 +157,68 @@ plus_of : (b : Bool) → b ≡ is_plus (sign_of b)
 plus_of true = refl
 plus_of false = refl
 
+-- a trigger as it is answered
+abbrev trigger_at : M.Trigger → ℕ → Taken Trigger
+trigger_at t n = record { value = as_trigger t; bytes = n }
+
 -- an event
-module _ (s : List ℕ) (t : List Name) (p : Known) (is : p ≡ as_known s (known t 0 s)) where
-  event_made : becomes trigger_at T.Refused M.Trigger.event p ≡ as_trigger_read s (event_trigger t 0 s)
+module _ (s : List ℕ) (t : List Name) (p : Result (Taken ℕ) Fault) (is : p ≡ as_known s (known t 0 s)) where
+  event_made : becomes trigger_at M.Trigger.event p ≡ as_triggered s (event_trigger t 0 s)
   unfolding event_trigger
-  event_made = made trigger_at T.Refused M.Trigger.event s p (known t 0 s) is
+  event_made = made trigger_at M.Trigger.event s p (known t 0 s) is
 
-  pub event_refused : (k : ℕ) → p ≡ K.Refused k → T.Refused k ≡ as_trigger_read s (event_trigger t 0 s)
-  event_refused k e = rw e at event_made
+  pub event_refused : (e : Fault) → p ≡ Err e → Err e ≡ as_triggered s (event_trigger t 0 s)
+  event_refused e told = rw told at event_made
 
-  pub event_read : (x n : ℕ) → p ≡ K.At x n → T.At (Event x) n ≡ as_trigger_read s (event_trigger t 0 s)
-  event_read x n e = rw e at event_made
+  pub event_read : (v : Taken ℕ) → p ≡ Ok v → Ok (record { value = Event v.value; bytes = v.bytes }) ≡ as_triggered s (event_trigger t 0 s)
+  event_read v told = rw told at event_made
 
 pub ruleset eventing = (event_refused, event_read, place_fits)
 
 -- a trigger, and the sign and status that a line begins with, by whether a sign stands
-module _ (s : List ℕ) (a : Bool) (is : a ≡ (begins (text "+") s || begins (text "-") s)) where
-  module _ (none : not a ≡ true) where
-    bare : Unsigned s
-    bare = unsigned s (begins (text "+") s) (begins (text "-") s) refl refl (sym is ∙ not-true a none)
+module _ (s : List ℕ) (o : Option Bool) (is : o ≡ as_sign (one_of LINE signs 0 s)) where
+  module _ (none : o ≡ None) where
+    pub trigger_event : (es ss : List Name) (r : Result (Taken Trigger) Fault) → r ≡ as_triggered s (event_trigger es 0 s)
+        → r ≡ as_triggered s (trigger es ss 0 s)
+    trigger_event es ss r q = q ∙ rw ((unsigned s o is none).trigger es ss)
 
-    pub trigger_event : (es ss : List Name) (r : TriggerRead) → r ≡ as_trigger_read s (event_trigger es 0 s) → r ≡ as_trigger_read s (trigger es ss 0 s)
-    trigger_event es ss r q = q ∙ rw (bare.trigger es ss)
+    pub change_unsigned : (ss : List Name) → Err F.Line ≡ as_start s (change ss 0 s)
+    change_unsigned ss = rw ((unsigned s o is none).change ss)
 
-    pub change_unsigned : (ss : List Name) → S.Refused LINE ≡ as_start s (change ss 0 s)
-    change_unsigned ss = rw (bare.change ss)
-
-  module _ (one : not a ≡ false) where
-    sign : Signed s (begins (text "+") s)
-    sign = signed s (begins (text "+") s) (begins (text "-") s) refl refl (sym is ∙ not-false a one)
+  module _ (b : Bool) (one : o ≡ Some b) where
+    sign : Signed s b
+    sign = signed s o is b one
 
     pub signed_some : 1 ≤ length s
     signed_some = sign.some
 
-    module _ (ss : List Name) (b : Bool) (up : b ≡ begins (text "+") s) (p : Known) (so : p ≡ as_known s (known ss 0 (drop 1 s))) where
-      trigger_made : (es : List Name) → becomes trigger_at T.Refused (move_of b) p ≡ as_trigger_read s (trigger es ss 0 s)
-      trigger_made es = rw (sign.trigger es ss, ← up) (made trigger_at T.Refused (move_of b) s p (known ss 0 (drop 1 s)) so)
+    module _ (ss : List Name) (p : Result (Taken ℕ) Fault) (so : p ≡ as_known s (known ss 0 (drop 1 s))) where
+      trigger_made : (es : List Name) → becomes trigger_at (move_of b) p ≡ as_triggered s (trigger es ss 0 s)
+      trigger_made es = rw (sign.trigger es ss) (made trigger_at (move_of b) s p (known ss 0 (drop 1 s)) so)
 
-      change_made : becomes start_at S.Refused (start_of b) p ≡ as_start s (change ss 0 s)
-      change_made = rw (sign.change ss, ← up) (made start_at S.Refused (start_of b) s p (known ss 0 (drop 1 s)) so)
+      change_made : becomes start_at (start_of b) p ≡ as_start s (change ss 0 s)
+      change_made = rw (sign.change ss) (made start_at (start_of b) s p (known ss 0 (drop 1 s)) so)
 
-      pub trigger_refused : (es : List Name) (k : ℕ) → p ≡ K.Refused k → T.Refused k ≡ as_trigger_read s (trigger es ss 0 s)
-      trigger_refused es k e = rw e at (trigger_made es)
+      pub trigger_refused : (es : List Name) (e : Fault) → p ≡ Err e → Err e ≡ as_triggered s (trigger es ss 0 s)
+      trigger_refused es e told = rw told at (trigger_made es)
 
-      pub trigger_read : (es : List Name) (x n : ℕ) → p ≡ K.At x n → (v : Trigger) → v ≡ moved b x → T.At v n ≡ as_trigger_read s (trigger es ss 0 s)
-      trigger_read es x n e v f = rw (f, move_of_lem b x) (rw e at (trigger_made es))
+      pub trigger_read : (es : List Name) (v : Taken ℕ) → p ≡ Ok v → (t : Trigger) → t ≡ moved b v.value
+          → Ok (record { value = t; bytes = v.bytes }) ≡ as_triggered s (trigger es ss 0 s)
+      trigger_read es v told t f = rw (f, move_of_lem b v.value) (rw told at (trigger_made es))
 
-      pub change_refused : (k : ℕ) → p ≡ K.Refused k → S.Refused k ≡ as_start s (change ss 0 s)
-      change_refused k e = rw e at change_made
+      pub change_refused : (e : Fault) → p ≡ Err e → Err e ≡ as_start s (change ss 0 s)
+      change_refused e told = rw told at change_made
 
-      pub change_read : (x n : ℕ) → p ≡ K.At x n
-          → S.At (record { plus = b; status = x; trigger = Always; on = false; bytes = n }) ≡ as_start s (change ss 0 s)
-      change_read x n e = ap (λ c. S.At (record { plus = c; status = x; trigger = Always; on = false; bytes = n })) (plus_of b) ∙ rw e at change_made
+      pub change_read : (v : Taken ℕ) → p ≡ Ok v
+          → Ok (record { plus = b; status = v.value; trigger = Always; on = false; bytes = v.bytes }) ≡ as_start s (change ss 0 s)
+      change_read v told =
+          ap (λ c. Ok (record { plus = c; status = v.value; trigger = Always; on = false; bytes = v.bytes })) (plus_of b) ∙ rw told at change_made
 
 pub ruleset triggering = (trigger_event, signed_some, trigger_refused, trigger_read, place_fits)
 
 pub ruleset changing = (change_unsigned, signed_some, change_refused, change_read, place_fits)
 
 -- THE WHOLE START: then a trigger
-abbrev pub start_kind : Kind Begun StartRead
-start_kind = record {
-  good = start_at;
-  bad = S.Refused;
-  size = elim [ S.At a ↦ bytes a.bytes | S.Refused k ↦ fault k ];
-  of_good = λ b n. refl;
-  of_bad = λ k. refl;
-}
-
-abbrev trigger_kind : Kind M.Trigger TriggerRead
-trigger_kind = record {
-  good = trigger_at;
-  bad = T.Refused;
-  size = elim [ T.At x n ↦ bytes n | T.Refused k ↦ fault k ];
-  of_good = λ b n. refl;
-  of_bad = λ k. refl;
-}
 
 -- the start of a line with its trigger
 abbrev with : Begun → M.Trigger → Bool → Begun
@@ -231,7 +236,7 @@ change_bare ss =
     any_ensures (known ss) λ x.
     give_ensures (record { none = refl; off = refl })
 
-module _ (s : List ℕ) (es ss : List Name) (r : StartRead) (is : r ≡ as_start s (change ss 0 s)) where
+module _ (s : List ℕ) (es ss : List Name) (r : Result Start Fault) (is : r ≡ as_start s (change ss 0 s)) where
   abbrev whole : Reader Begun
   whole = begun es ss
 
@@ -242,36 +247,33 @@ module _ (s : List ℕ) (es ss : List Name) (r : StartRead) (is : r ≡ as_start
   abbrev goes : Begun → Reader Begun
   goes b = λ l s. after (stands (text " on ") l s) (fires b)
 
-  pub start_refused : (k : ℕ) → r ≡ S.Refused k → r ≡ as_start s (whole 0 s)
+  pub start_refused : (e : Fault) → r ≡ Err e → Err e ≡ as_start s (whole 0 s)
   unfolding begun
-  start_refused k e = e ∙ rw (left_off start_kind (inline_ends (change_built ss)) goes (left_start whole 0 s) s refl r is k (ap start_kind.size e))
+  start_refused e told =
+      off_answer start_at s (piece_off start_at fault_of (inline_ends (change_built ss)) goes (left_start whole 0 s) s refl r is e told)
 
-  module _ (c : Start) (told : r ≡ S.At c) where
-    changed : Next start_kind (λ b n. Bare b) (whole 0 s) goes 0 0 s r c.bytes
+  module _ (c : Start) (told : r ≡ Ok c) where
+    changed : Next start_at (λ b n. Bare b) (whole 0 s) goes 0 0 s c
     unfolding begun
-    changed = left_on start_kind (ensured_ends (change_built ss) (change_bare ss)) goes (left_start whole 0 s) s refl r is c.bytes (ap start_kind.size told)
+    changed = piece_on start_at fault_of (ensured_ends (change_built ss) (change_bare ss)) goes (left_start whole 0 s) s refl r is c told
+
+    bytes_is : c.bytes ≡ changed.bytes
+    bytes_is = ap (λ (a : Start). a.bytes) changed.same
 
     came : Left (whole 0 s) (goes changed.value) 0 c.bytes s
-    came = left_at changed.left c.bytes (omega arith)
-
-    start_is : (x : Trigger) (on : Bool) (m : ℕ) → S.At (record { plus = c.plus; status = c.status; trigger = x; on = on; bytes = m })
-        ≡ S.At (record { plus = is_plus changed.value.sign; status = changed.value.status; trigger = x; on = on; bytes = m })
-    start_is x on m =
-        let z : S.At c ≡ start_at changed.value c.bytes = sym told ∙ changed.same in
-        let y : c.plus ≡ is_plus changed.value.sign = cc in
-        let w : c.status ≡ changed.value.status = cc in
-        cc
+    came = left_at changed.left c.bytes (omega (arith, bytes_is))
 
     module _ (u : List ℕ) (at : u ≡ drop c.bytes s) (b : Bool) (key : b ≡ begins (text " on ") u) where
       stood : b ≡ begins (text " on ") (drop c.bytes s)
       stood = rw at at key
 
-      pub start_plain : not b ≡ true → S.At c ≡ as_start s (whole 0 s)
+      pub start_plain : not b ≡ true → Ok c ≡ as_start s (whole 0 s)
       start_plain f =
           let off = stands_not (text " on ") 0 (drop c.bytes s) b stood (not-true b f) in
           let left = left_got (stands (text " on ")) (fires changed.value) came false 0 0 (omega arith) off in
-          let z : S.At c ≡ start_at changed.value c.bytes = sym told ∙ changed.same in
-          z ∙ rw (changed.holds.none, changed.holds.off) (left_answer start_at S.Refused left c.bytes (omega arith))
+          let z : c ≡ start_at (with changed.value M.Trigger.always false) (c.bytes + 0)
+          = changed.same ∙ rw (changed.holds.none, changed.holds.off) (ap (start_at (with changed.value M.Trigger.always false)) (omega (arith, bytes_is))) in
+          left_piece start_at fault_of left c z
 
       module _ (f : not b ≡ false) where
         asked : Left (whole 0 s) (fires changed.value true) 0 (c.bytes + 4) s
@@ -280,30 +282,34 @@ module _ (s : List ℕ) (es ss : List Name) (r : StartRead) (is : r ≡ as_start
             let on = stands_here (text " on ") 0 (drop c.bytes s) b stood (not-false b f) in
             left_got (stands (text " on ")) (fires changed.value) came true 0 4 fits on
 
-        module _ (v : List ℕ) (then : v ≡ drop 4 u) (t : TriggerRead) (so : t ≡ as_trigger_read v (trigger es ss 0 v)) where
+        module _ (v : List ℕ) (then : v ≡ drop 4 u) (t : Result (Taken Trigger) Fault) (so : t ≡ as_triggered v (trigger es ss 0 v)) where
           rest : v ≡ drop (c.bytes + 4) s
           rest = then ∙ rw (at, drop-drop 4 c.bytes s)
 
-          pub start_unfired : (k : ℕ) → t ≡ T.Refused k → S.Refused k ≡ as_start s (whole 0 s)
-          start_unfired k e = rw (left_off trigger_kind (inline_ends (trigger_built es ss)) _ asked v rest t so k (ap trigger_kind.size e))
+          pub start_unfired : (e : Fault) → t ≡ Err e → Err e ≡ as_start s (whole 0 s)
+          start_unfired e q = off_answer start_at s (piece_off trigger_at fault_of (inline_ends (trigger_built es ss)) _ asked v rest t so e q)
 
-          module _ (x : Trigger) (n : ℕ) (e : t ≡ T.At x n) where
-            fired : Next trigger_kind (λ x n. Any x) (whole 0 s) (λ t. give (with changed.value t true)) 0 (c.bytes + 4) s t n
-            fired = left_on trigger_kind (inline_ends (trigger_built es ss)) _ asked v rest t so n (ap trigger_kind.size e)
+          module _ (x : Taken Trigger) (e : t ≡ Ok x) where
+            fired : Next trigger_at (λ x n. Any x) (whole 0 s) (λ t. give (with changed.value t true)) 0 (c.bytes + 4) s x
+            fired = piece_on trigger_at fault_of (inline_ends (trigger_built es ss)) _ asked v rest t so x e
 
-            pub start_whole : length s < 2 ^ 64 → (m : ℕ) → m ≡ c.bytes + 4 + n → Fits w64 m
-            start_whole big m w = omega (arith, fired.left.within)
+            took_is : x.bytes ≡ fired.bytes
+            took_is = ap (λ (a : Taken Trigger). a.bytes) fired.same
 
-            pub start_fired : (m : ℕ) → m ≡ c.bytes + 4 + n
-                → S.At (record { plus = c.plus; status = c.status; trigger = x; on = true; bytes = m }) ≡ as_start s (whole 0 s)
+            pub start_whole : length s < 2 ^ 64 → (m : ℕ) → m ≡ c.bytes + 4 + x.bytes → Fits w64 m
+            start_whole big m w = omega (arith, fired.left.within, took_is)
+
+            pub start_fired : (m : ℕ) → m ≡ c.bytes + 4 + x.bytes
+                → Ok (record { plus = c.plus; status = c.status; trigger = x.value; on = true; bytes = m }) ≡ as_start s (whole 0 s)
             start_fired m w =
-                let z : T.At x n ≡ trigger_at fired.value n = sym e ∙ fired.same in
-                let y : x ≡ as_trigger fired.value = cc in
-                start_is x true m ∙ rw y (left_answer start_at S.Refused fired.left m w)
+                let z = changed.same in
+                let y = fired.same in
+                let k : m ≡ c.bytes + 4 + fired.bytes = omega (arith, took_is) in
+                left_piece start_at fault_of fired.left (record { plus = c.plus; status = c.status; trigger = x.value; on = true; bytes = m }) cc
 
 -- the bytes up to the trigger, whatever the events are
-pub start_on : (s : List ℕ) (ss : List Name) (r : StartRead) → r ≡ as_start s (change ss 0 s) → (c : Start) → r ≡ S.At c → (u : List ℕ) → u ≡ drop c.bytes s
-    → (b : Bool) → b ≡ begins (text " on ") u → not b ≡ false → length s < 2 ^ 64 → (m : ℕ) → m ≡ c.bytes + 4 → Fits w64 m
+pub start_on : (s : List ℕ) (ss : List Name) (r : Result Start Fault) → r ≡ as_start s (change ss 0 s) → (c : Start) → r ≡ Ok c
+    → (u : List ℕ) → u ≡ drop c.bytes s → (b : Bool) → b ≡ begins (text " on ") u → not b ≡ false → length s < 2 ^ 64 → (m : ℕ) → m ≡ c.bytes + 4 → Fits w64 m
 start_on s ss r is c told u at b key f big m w = omega (arith, (asked s [] ss r is c told u at b key f).within)
 
 pub ruleset starting = (start_refused, start_plain, start_unfired, start_fired, start_on, start_whole)

@@ -6,6 +6,7 @@ use mathlib.Core.List.{List}
 use native.Mathlib.Omega.{arith}
 use lib.Dec.{leb}
 use lib.ListN.{length, take, replicate}
+use Rattle.std.specs.Prelude.{Option, Some, None}
 use Rattle.meaning.specs.Step.{pattern}
 use Rattle.meaning.specs.Limits.{status_limit}
 use Rattle.reply.specs.declared.Reply.{Reply}
@@ -20,8 +21,6 @@ use Rattle.step_run.specs.Run.{run_over}
 use Rattle.step_moment.specs.Tables.{moment_of, mark_parents, task_marks}
 use Rattle.card_write.specs.Texts.{next_text}
 use Rattle.card_write.specs.Answers.{as_written, space_with}
-use Rattle.card_write.specs.declared.Written.{Written}
-use Rattle.card_write.specs.declared.Written.TheVariants.{Bytes, Room}
 use Rattle.step_sheet.specs.declared.Accepted.{Accepted}
 use Rattle.step_case.specs.Next.{marks_after, text_after, tasks_after, reply_after}
 
@@ -46,12 +45,12 @@ module _ (a : Accepted) (c : Card) (h : Happening) (card event was : List ℕ) (
   next_space now e = e ∙ ap (space_with was) text_is
 
   fits_told : (b : Bool) → leb (length (text_after a c h card event)) (length was) ≡ b
-      → as_written was t ≡ cond b (Bytes (length (text_after a c h card event))) Room
+      → as_written was t ≡ cond b (Some (length (text_after a c h card event))) None
   unfolding as_written
-  fits_told b e = ap (as_written was) text_is ∙ ap (λ b. cond b (Bytes (length (text_after a c h card event))) Room) e
+  fits_told b e = ap (as_written was) text_is ∙ ap (λ b. cond b (Some (length (text_after a c h card event))) None) e
 
-  module _ (w : Written) (is : w ≡ as_written was (next_text (heads_of a.heads) event card h c marks)) where
-    pub next_room : w ≡ Room → (r : Reply) → r ≡ refused_reply 9 0 0 → r ≡ reply_after a c h card event (length was)
+  module _ (w : Option ℕ) (is : w ≡ as_written was (next_text (heads_of a.heads) event card h c marks)) where
+    pub next_room : w ≡ None → (r : Reply) → r ≡ refused_reply 9 0 0 → r ≡ reply_after a c h card event (length was)
     unfolding reply_after
     next_room room r e = go (leb (length (text_after a c h card event)) (length was)) refl
       where
@@ -59,10 +58,10 @@ module _ (a : Accepted) (c : Card) (h : Happening) (card event was : List ℕ) (
             → r ≡ cond (leb (length (text_after a c h card event)) (length was))
             (record { number = 0; paper = 0; line = 0; count = length (text_after a c h card event); tasks = tasks_after a c h }) (refused_reply 9 0 0)
         go false q = e ∙ rw q
-        go true q = let z : Room ≡ Bytes (length (text_after a c h card event)) = sym room ∙ is ∙ fits_told true q in let y : ◌≡◌ {A = ℕ} 0 1 = cc in
+        go true q = let z : None ≡ Some (length (text_after a c h card event)) = sym room ∙ is ∙ fits_told true q in let y : ◌≡◌ {A = ℕ} 0 1 = cc in
             absurd (omega arith)
 
-    pub next_reply : (n : ℕ) → w ≡ Bytes n → (tasks : ℕ)
+    pub next_reply : (n : ℕ) → w ≡ Some n → (tasks : ℕ)
         → tasks ≡ pattern (side_of (take a.heads.stages
         (task_marks (mark_parents (replicate status_limit 0) (take a.heads.stages a.heads.under)) c.marks marks)))
         → ◌≡◌ {A = Reply} (record { number = 0; paper = 0; line = 0; count = n; tasks = tasks }) (reply_after a c h card event (length was))
@@ -78,8 +77,8 @@ module _ (a : Accepted) (c : Card) (h : Happening) (card event was : List ℕ) (
             → ◌≡◌ {A = Reply} (record { number = 0; paper = 0; line = 0; count = n; tasks = tasks })
             (cond (leb (length (text_after a c h card event)) (length was))
             (record { number = 0; paper = 0; line = 0; count = length (text_after a c h card event); tasks = tasks_after a c h }) (refused_reply 9 0 0))
-        go true q = let z : Bytes n ≡ Bytes (length (text_after a c h card event)) = sym told ∙ is ∙ fits_told true q in
+        go true q = let z : Some n ≡ Some (length (text_after a c h card event)) = sym told ∙ is ∙ fits_told true q in
             let y : n ≡ length (text_after a c h card event) = cc in rw (q, y, tasks_are)
-        go false q = let z : Bytes n ≡ Room = sym told ∙ is ∙ fits_told false q in let y : ◌≡◌ {A = ℕ} 0 1 = cc in absurd (omega arith)
+        go false q = let z : Some n ≡ None = sym told ∙ is ∙ fits_told false q in let y : ◌≡◌ {A = ℕ} 0 1 = cc in absurd (omega arith)
 
 pub ruleset stepping = (next_stages, next_space, next_room, next_reply)

@@ -7,13 +7,13 @@ ghost use Rattle.sheet_tables.specs.Heads.{Sized};
 ghost use Rattle.card_write.specs.Answers.{space_with};
 ghost use Rattle.step_case.specs.Next.{text_after, reply_after};
 
-use card_write::Written;
 use case_tables::{Card, Happening};
 use reply::Reply;
 use step_sheet::Accepted;
 
 // The step of the card and the event line that were read off these papers: the next card at the start of `out`, and what is returned; ROOM where it does not
 // fit.
+#[tactic(auto, using(crate::proofs::Laws::stepping))]
 pub fn step_case<'a>(
     sheet: Accepted,
     given: Card,
@@ -29,10 +29,9 @@ pub fn step_case<'a>(
     let under = sheet.heads.under;
     let before = given.marks;
     let moment = step_moment::moment_of(given, happening);
-    let after = step_run::run_step(sheet.plan, &sheet.words, moment);
-    let marks = after.marks;
+    let marks = step_run::run_step(sheet.plan, &sheet.words, moment);
     let written = card_write::write_card(out, sheet.heads, event, card, happening, given, marks);
-    let Written::Bytes(count) = written else {
+    let Some(count) = written else {
         return reply::refusal(reply::ROOM, 0, 0);
     };
     Reply {

@@ -1,5 +1,5 @@
 -- Laws of the functions, return by return: values put in, patterns, tasks.
-use Prim.Native.Nat.{ℕ, zero, suc, ◌+◌, ◌-◌, ◌*◌, ◌≤◌, ◌<◌}
+use Prim.Native.Nat.{ℕ, zero, suc, ◌+◌, ◌-◌, ◌*◌, ◌≤◌, ◌<◌, min}
 use mathlib.Core.Path.{◌≡◌, refl, sym, ap, ap₂, ◌∙◌}
 use mathlib.Core.Bool.{Bool, true, false, cond}
 use mathlib.Core.List.{List, [], ◌∷◌, ◌++◌}
@@ -8,16 +8,11 @@ use native.Mathlib.Numerals.{add-one}
 use mir.Val.{Fits}
 use mir.Syntax.{w32}
 use lib.ListN.{length, length-map, length-take, length-drop, length-set, drop_of_length-le, get_or, take, drop, set, replicate}
-use lib.Seq.{set_out, drop-cons, take-suc, take-suc-set, get_or-take}
-use borrow.Author.Tests.{ne_eqb}
-use Rattle.meaning.specs.Kleene.{true₃, false₃}
+use lib.Seq.{drop-cons, take-suc, take-suc-set, get_or-take}
 use Rattle.meaning.specs.Step.{pattern}
 use Rattle.meaning.specs.Limits.{field_limit, status_limit}
-use Rattle.marks.specs.Codes.{code, is_yes, yes_at, side_of}
-use Rattle.case_tables.specs.declared.Card.{Card}
-use Rattle.case_tables.specs.declared.Happening.{Happening}
-use Rattle.step_test.specs.declared.Moment.{Moment}
-use Rattle.step_moment.specs.Tables.{put_codes, moment_of, mark_parent, mark_parents, task_mark, task_marks}
+use Rattle.marks.specs.Codes.{is_yes, yes_at, side_of}
+use Rattle.step_moment.specs.Tables.{put_codes, mark_parent, mark_parents, task_mark, task_marks}
 
 -- what is left of the first n members, from a place before the n-th on
 rest_cons : (n : ℕ) (l : List ℕ) (i : ℕ) → i < n → i < length l → drop i (take n l) ≡ get_or l i 0 ∷ drop (suc i) (take n l)
@@ -26,52 +21,31 @@ rest_cons n l i h g = drop-cons (take n l) i 0 (rw length-take (omega arith)) �
 rest_none : (n : ℕ) (l : List ℕ) (i : ℕ) → n ≤ i → drop i (take n l) ≡ []
 rest_none n l i h = drop_of_length-le (take n l) {i = i} (rw length-take (omega arith))
 
-rest_over : (n : ℕ) (l : List ℕ) (i : ℕ) → length l ≤ i → drop i (take n l) ≡ []
-rest_over n l i h = drop_of_length-le (take n l) {i = i} (rw length-take (omega arith))
-
 -- VALUES
-
-module _ (values : List ℕ) (f v at : ℕ) (is : at ≡ f) where
-  pub value_out : length values ≡ field_limit → field_limit ≤ at → values ≡ set values f v
-  value_out l h = sym (set_out values f v (omega arith))
-
-  pub value_in : set values at v ≡ set values f v
-  value_in = ap (λ n. set values n v) is
 
 -- what is left is put into what was reached
 pub record Putting (fields puts values : List ℕ) (count : ℕ) (after : List ℕ) (i : ℕ) : Type 0 where
   pub same : put_codes (take count fields) puts values ≡ put_codes (drop i (take count fields)) (drop i puts) after
 
 module _ (fields puts values : List ℕ) (count : ℕ) where
-  pub put_start : Putting fields puts values count values 0
-  put_start = record { same = refl }
-
   module _ (after : List ℕ) (i : ℕ) (inv : Putting fields puts values count after i) (long : length fields ≡ field_limit) where
-    pub put_done : count ≤ i → after ≡ put_codes (take count fields) puts values
+    pub put_done : min count field_limit ≤ i → after ≡ put_codes (take count fields) puts values
     unfolding put_codes
-    put_done h = sym (inv.same ∙ ap (λ fs. put_codes fs (drop i puts) after) (rest_none count fields i h))
+    put_done h =
+        let none : drop i (take count fields) ≡ [] = drop_of_length-le (take count fields) {i = i} (rw length-take (omega arith)) in
+        sym (inv.same ∙ ap (λ fs. put_codes fs (drop i puts) after) none)
 
-    pub put_over : field_limit ≤ i → after ≡ put_codes (take count fields) puts values
-    unfolding put_codes
-    put_over h = sym (inv.same ∙ ap (λ fs. put_codes fs (drop i puts) after) (rest_over count fields i (omega arith)))
-
-    pub put_more : i < count → i < field_limit → length puts ≡ field_limit → (a : List ℕ) → a ≡ set after (get_or fields i 0) (get_or puts i 0) → (n : ℕ)
+    pub put_more : i < min count field_limit → length puts ≡ field_limit → (a : List ℕ) → a ≡ set after (get_or fields i 0) (get_or puts i 0) → (n : ℕ)
         → n ≡ i + 1
         → Putting fields puts values count a n
     unfolding put_codes
-    put_more h g wide a e n z = rw (z, add-one, e) (record {
-      same = inv.same ∙ ap₂ (λ fs vs. put_codes fs vs after) (rest_cons count fields i h (omega arith)) (drop-cons puts i 0 (omega arith));
+    put_more h wide a e n z = rw (z, add-one, e) (record {
+      same = inv.same ∙ ap₂ (λ fs vs. put_codes fs vs after) (rest_cons count fields i (omega arith) (omega arith)) (drop-cons puts i 0 (omega arith));
     })
 
-pub ruleset putting = (value_out, value_in, put_start, put_done, put_over, put_more)
+pub ruleset putting = (put_done, put_more)
 
 -- PATTERNS
-
-pub bit_yes : (m : ℕ) → m ≡ code true₃ → ◌≡◌ {A = ℕ} 1 (cond (is_yes m) 1 0)
-bit_yes m e = rw e
-
-pub bit_no : (m : ℕ) → (m ≡ code true₃ → ⊥) → ◌≡◌ {A = ℕ} 0 (cond (is_yes m) 1 0)
-bit_no m h = rw (ne_eqb m (code true₃) h)
 
 -- the least number that k statuses do not reach
 abbrev above : ℕ → ℕ
@@ -140,43 +114,15 @@ module _ (marks : List ℕ) (n : ℕ) where
               ∙ sym (ap (λ l. pattern (side_of l)) rest ∙ pattern_cons (yes_at marks j) (side_of (drop i (take n marks))));
         }
 
-pub ruleset counting = (bit_yes, bit_no, count_start, count_done, count_double, count_sum, count_more)
+pub ruleset counting = (count_start, count_done, count_double, count_sum, count_more)
 
 -- PARENTS
-
-module _ (ps : List ℕ) (code : ℕ) where
-  pub parent_none : code ≡ 0 → ps ≡ mark_parent ps code
-  parent_none e = rw e
-
-  module _ (w at : ℕ) (some : code ≡ 0 → ⊥) (wide : w ≡ code) (is : at ≡ w - 1) where
-    named : code ≡ suc at
-    named = go code some wide
-      where
-        go : (c : ℕ) → (c ≡ 0 → ⊥) → w ≡ c → c ≡ suc at
-        go zero n e = absurd (n refl)
-        go (suc c) n e = omega arith
-
-    pub parent_out : length ps ≡ status_limit → status_limit ≤ at → ps ≡ mark_parent ps code
-    parent_out l h = sym (ap (mark_parent ps) named ∙ set_out ps at 1 (omega arith))
-
-    pub parent_in : set ps at 1 ≡ mark_parent ps code
-    parent_in = sym (ap (mark_parent ps) named)
-
-pub parent_low : (w code : ℕ) → (code ≡ 0 → ⊥) → w ≡ code → 1 ≤ w
-parent_low w code n e = go w refl
-  where
-    go : (v : ℕ) → w ≡ v → 1 ≤ w
-    go zero z = absurd (n (sym e ∙ z))
-    go (suc v) z = omega arith
 
 -- those of the codes left are still to be marked
 pub record Marking (under : List ℕ) (stages : ℕ) (parents : List ℕ) (x : ℕ) : Type 0 where
   pub same : mark_parents (replicate status_limit 0) (take stages under) ≡ mark_parents parents (drop x (take stages under))
 
 module _ (under : List ℕ) (stages : ℕ) where
-  pub mark_start : Marking under stages (replicate status_limit 0) 0
-  mark_start = record { same = refl }
-
   module _ (parents : List ℕ) (x : ℕ) (inv : Marking under stages parents x) where
     pub mark_done : stages ≤ x → parents ≡ mark_parents (replicate status_limit 0) (take stages under)
     unfolding mark_parents
@@ -187,22 +133,9 @@ module _ (under : List ℕ) (stages : ℕ) where
     unfolding mark_parents
     mark_more long few h ps e n z = rw (z, add-one, e) (record { same = inv.same ∙ ap (mark_parents parents) (rest_cons stages under x h (omega arith)) })
 
-pub ruleset marking = (parent_none, parent_out, parent_in, parent_low, mark_start, mark_done, mark_more)
+pub ruleset marking = (mark_done, mark_more)
 
 -- TASKS
-
-module _ (parent before after : ℕ) where
-  pub task_parent : (parent ≡ 0 → ⊥) → code false₃ ≡ task_mark parent before after
-  unfolding task_mark
-  task_parent n = rw (ne_eqb parent 0 n)
-
-  pub task_before : parent ≡ 0 → before ≡ code true₃ → code false₃ ≡ task_mark parent before after
-  unfolding task_mark
-  task_before e f = rw (e, f)
-
-  pub task_after : parent ≡ 0 → (before ≡ code true₃ → ⊥) → after ≡ task_mark parent before after
-  unfolding task_mark
-  task_after e n = rw (e, ne_eqb before (code true₃) n)
 
 pub task_at : (ps bs cs : List ℕ) (x : ℕ) → x < length ps → x < length bs → x < length cs
     → (x < length (task_marks ps bs cs)) × (get_or (task_marks ps bs cs) x 0 ≡ task_mark (get_or ps x 0) (get_or bs x 0) (get_or cs x 0))
@@ -241,9 +174,4 @@ module _ (parents before after : List ℕ) (stages : ℕ) where
     tasks_done h ps is p e = let z : x ≡ stages = omega (arith, inv.within) in e ∙ ap (λ l. pattern (side_of l)) (rw z at inv.same)
         ∙ ap (λ q. pattern (side_of (take stages (task_marks q before after)))) is
 
-pub ruleset tasking = (task_parent, task_before, task_after, tasks_start, tasks_more, tasks_done)
-
--- a moment is made of its parts
-pub moment_made : (c : Card) (h : Happening) (v : List ℕ) → v ≡ put_codes (take h.count h.fields) h.values c.values
-    → ◌≡◌ {A = Moment} (record { event = h.event; values = v; before = c.marks }) (moment_of c h)
-moment_made c h v e = ap (λ v. record { event = h.event; values = v; before = c.marks }) e
+pub ruleset tasking = (tasks_start, tasks_more, tasks_done)

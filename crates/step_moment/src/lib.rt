@@ -11,38 +11,24 @@ use case_tables::{Card, Happening};
 use marks::{Marks, Values};
 use step_test::Moment;
 
-fn set_value(values: Values, f: u8, v: u64) -> Values
-    ensures { result ≡ set values f v }
+// Puts in the value of a field.
+fn put_value(values: &mut Values, f: u8, v: u64)
+    ensures { values.new ≡ set values.old f v }
 {
-    let at = places::of_byte(f);
-    let mut after = values;
-    if limits::FIELDS <= at {
-        return after;
+    let at = usize::from(f);
+    if at < limits::FIELDS {
+        values[at] = v;
     }
-    after[at] = v;
-    after
 }
 
 // The values with those that the event carries put in.
-fn put_in(values: Values, e: Happening) -> Values
+fn put_in(mut values: Values, e: Happening) -> Values
     ensures { result ≡ put_codes (take e.count e.fields) e.values values }
 {
-    let fields = e.fields;
-    let puts = e.values;
-    let count = e.count;
-    let mut after = values;
-    let mut i = 0;
-    while i < count {
-        if limits::FIELDS <= i {
-            return after;
-        }
-        let f = fields[i];
-        let v = puts[i];
-        let next = set_value(after, f, v);
-        after = next;
-        i += 1;
+    for i in 0..e.count.min(limits::FIELDS) {
+        put_value(&mut values, e.fields[i], e.values[i]);
     }
-    after
+    values
 }
 
 // The moment of a card and an event line: the event, the values with the event's put in, and the marks before.
@@ -63,10 +49,7 @@ pub fn moment_of(card: Card, e: Happening) -> Moment
 fn bit(mark: u8) -> u32
     ensures { result ≡ cond (is_yes mark) 1 0 }
 {
-    if mark == marks::YES {
-        return 1;
-    }
-    0
+    u32::from(mark == marks::YES)
 }
 
 // The pattern of the first n statuses: bit i is status i. The last is added first.
@@ -74,58 +57,45 @@ pub fn pattern_of(marks: Marks, n: usize) -> u32
     requires { n ≤ status_limit }
     ensures { result ≡ pattern (side_of (take n marks)) }
 {
-    let mut p: u32 = 0;
-    let mut i = n;
-    while 0 < i {
-        i -= 1;
+    let mut p = 0;
+    for i in (0..n).rev() {
         p = p * 2 + bit(marks[i]);
     }
     p
 }
 
 // The stage that a code names is a parent.
-fn mark_parent(parents: [u8; limits::STATUSES], code: u8) -> [u8; limits::STATUSES]
-    ensures { result ≡ mark_parent parents code }
+fn mark_parent(parents: &mut Marks, code: u8)
+    ensures { parents.new ≡ mark_parent parents.old code }
 {
-    let mut marked = parents;
-    if code == 0 {
-        return marked;
+    let at = usize::from(code);
+    if 0 < at && at <= limits::STATUSES {
+        parents[at - 1] = 1;
     }
-    let at = places::of_byte(code) - 1;
-    if limits::STATUSES <= at {
-        return marked;
-    }
-    marked[at] = 1;
-    marked
 }
 
 // Which stages have a child stage.
-fn mark_parents(under: [u8; limits::STATUSES], stages: usize) -> [u8; limits::STATUSES]
+fn mark_parents(under: Marks, stages: usize) -> Marks
     requires { stages ≤ status_limit }
     ensures { result ≡ mark_parents (replicate status_limit 0) (take stages under) }
 {
     let mut parents = [0; limits::STATUSES];
-    let mut x = 0;
-    while x < stages {
-        let code = under[x];
-        let next = mark_parent(parents, code);
-        parents = next;
-        x += 1;
+    for x in 0..stages {
+        mark_parent(&mut parents, under[x]);
     }
     parents
 }
 
 // A stage that has no child stage and turned yes is a task started.
+#[tactic(auto, unfolding(crate::specs::Tables::task_mark))]
 fn task_mark(parent: u8, before: u8, after: u8) -> u8
     ensures { result ≡ task_mark parent before after }
 {
-    if parent != 0 {
-        return marks::NO;
+    if parent != 0 || before == marks::YES {
+        marks::NO
+    } else {
+        after
     }
-    if before == marks::YES {
-        return marks::NO;
-    }
-    after
 }
 
 // The tasks started, as a pattern of stages: those without a child stage that turned yes.
@@ -135,10 +105,8 @@ pub fn tasks_started(under: Marks, stages: usize, before: Marks, after: Marks) -
 {
     let parents = mark_parents(under, stages);
     let mut tasks = [0; limits::STATUSES];
-    let mut x = 0;
-    while x < stages {
+    for x in 0..stages {
         tasks[x] = task_mark(parents[x], before[x], after[x]);
-        x += 1;
     }
     pattern_of(tasks, stages)
 }

@@ -1,37 +1,25 @@
 -- Laws of the plan: the tests of a node put behind those listed, and one node after another.
-use Prim.Native.Nat.{ℕ, zero, suc, ◌+◌, ◌-◌, ◌*◌, ◌≤◌, ◌<◌, min}
+use Prim.Native.Nat.{ℕ, zero, suc, ◌+◌, ◌-◌, ◌≤◌, ◌<◌, min}
 use mathlib.Core.Path.{◌≡◌, refl, sym, ap, ap₂, subst, ◌∙◌}
-use mathlib.Core.Bool.{Bool, true, false, not, ◌&&◌, false≢true}
+use mathlib.Core.Bool.{Bool, true, false, ◌&&◌, false≢true}
 use mathlib.Core.List.{List, [], ◌∷◌, ◌++◌}
 use native.Mathlib.Omega.{arith}
 use native.Mathlib.Nat.{sub-zero, zero-sub}
 use native.Mathlib.Numerals.{add-one}
 use native.Mathlib.Decide.{dec_lt}
 use mir.Val.{Fits}
-use mir.Syntax.{w8, w64}
+use mir.Syntax.{w8}
 use lib.Dec.{eqb, ltb}
 use lib.ListN.{length, length-take, drop_of_length-le, get_or, take, drop, set, replicate}
 use lib.Seq.{sets, take-nil, drop-cons, get_or-take}
-use borrow.Author.Tests.{eq-eqb, ne_eqb, lt-ltb, le-ltb, ltb-true, not-true, not-false}
+use borrow.Author.Tests.{lt-ltb, le-ltb, ltb-true}
 use Rattle.meaning.specs.Text.{keep, joined}
 use Rattle.theory.specs.Lists.Padded.{padded, take_low, laid}
 use Rattle.limits.specs.Sizes.{node_room, test_room}
 use Rattle.graph_tests.specs.declared.Test.{Test}
-use Rattle.graph_tests.specs.declared.Tests.{Tests}
 use Rattle.graph_tests.specs.Table.{no_test, rows_for}
 use Rattle.step_plan.specs.Plan.{listed_by, ends_from, as_plan}
 use Rattle.step_plan.specs.Listed.{Listed, none_listed, add_if, add_all}
-
--- WHETHER A TEST GOES
-
-module _ (n k count : ℕ) where
-  pub goes_other : (n ≡ k → ⊥) → false ≡ (eqb n k && ltb count test_room)
-  goes_other h = rw (ne_eqb n k h)
-
-  pub goes_room : n ≡ k → ltb count test_room ≡ (eqb n k && ltb count test_room)
-  goes_room h = rw (eq-eqb n k h)
-
-pub ruleset choosing = (goes_other, goes_room)
 
 -- THE TESTS OF ONE NODE
 
@@ -154,11 +142,9 @@ rows_done all o l e =
     ∙ sym (add_rows none_listed ts (omega arith))
     ∙ ap (λ l. l.rows) e
 
--- what holds at every turn: of the tests and of the order so many are asked for
-pub record Sized (tests : Tests) (order : List ℕ) (nodes last top : ℕ) : Type 0 where
-  pub low : last ≡ min tests.count test_room
+-- what holds at every turn: of the order so many nodes are asked for
+pub record Sized (order : List ℕ) (nodes top : ℕ) : Type 0 where
   pub few : top ≡ min nodes node_room
-  pub long : length tests.rows ≡ test_room
   pub full : length order ≡ node_room
 
 -- the loop over the nodes: what is still to come
@@ -188,114 +174,96 @@ node_done all o listed ends i k inv h next =
           ∙ ends_more ends i listed.count all k (drop (suc i) o) (add_all listed (rows_for all k)).count (sym count);
     }
 
-module _ (tests : Tests) (order : List ℕ) (nodes last top : ℕ) where
-  -- the tests and the nodes that are asked for
-  abbrev All : List Test
-  All = take last tests.rows
-
+module _ (all : List Test) (order : List ℕ) (nodes top : ℕ) where
+  -- the nodes that are asked for
   abbrev Nodes : List ℕ
   Nodes = take top order
 
   -- the loop over the nodes
   pub record AtNode (rows : List Test) (ends : List ℕ) (count i : ℕ) : Type 0 where
-    pub sized : Sized tests order nodes last top
-    pub going : Planning All Nodes (record { rows = rows; count = count }) ends i
+    pub sized : Sized order nodes top
+    pub going : Planning all Nodes (record { rows = rows; count = count }) ends i
 
-  -- the loop over the tests, at the node k of place i
-  pub record AtRow (rows : List Test) (ends : List ℕ) (count i k j : ℕ) : Type 0 where
-    pub sized : Sized tests order nodes last top
-    pub within : j ≤ last
+  -- the loop over the tests, at the node of place i
+  pub record AtRow (rows : List Test) (ends : List ℕ) (count i j : ℕ) : Type 0 where
+    pub sized : Sized order nodes top
     pub node : i < top
-    pub going : Planning All Nodes (then All rows count k j) (set ends i (then All rows count k j).count) (suc i)
+    pub going : Planning all Nodes (then all rows count (get_or order i 0) j) (set ends i (then all rows count (get_or order i 0) j).count) (suc i)
 
-  pub nodes_start : length tests.rows ≡ test_room → length order ≡ node_room → last ≡ min tests.count test_room
-      → top ≡ min nodes node_room → (t : Test) → t ≡ no_test
+  pub nodes_start : length order ≡ node_room → top ≡ min nodes node_room → (t : Test) → t ≡ no_test
       → AtNode (replicate test_room t) (replicate node_room 0) 0 0
-  nodes_start h l e g t n = rw n (record {
-    sized = record { low = e; few = g; long = h; full = l };
+  nodes_start l g t n = rw n (record {
+    sized = record { few = g; full = l };
     going = record {
       within = omega arith;
       counted = omega arith;
       same = refl;
-      marked = sym (laid node_room 0 (ends_from 0 All Nodes) (omega (arith, ends_length 0 All Nodes, length-take top order)));
+      marked = sym (laid node_room 0 (ends_from 0 all Nodes) (omega (arith, ends_length 0 all Nodes, length-take top order)));
     };
   })
 
   module _ (rows : List Test) (ends : List ℕ) (count i : ℕ) (inv : AtNode rows ends count i) where
     -- the node at the place
-    pub rows_start : i < top → AtRow rows ends count i (get_or order i 0) 0
+    pub rows_start : i < top → AtRow rows ends count i 0
     rows_start h =
         let long : length Nodes ≡ top = length-take top order ∙ omega (arith, inv.sized.few, inv.sized.full) in
         record {
           sized = inv.sized;
-          within = omega arith;
           node = h;
-          going = node_done All Nodes (record { rows = rows; count = count }) ends i (get_or order i 0) inv.going (omega arith)
+          going = node_done all Nodes (record { rows = rows; count = count }) ends i (get_or order i 0) inv.going (omega arith)
               (drop-cons Nodes i 0 (omega arith) ∙ ap (λ x. x ∷ drop (suc i) Nodes) (get_or-take top order i 0 h));
         }
 
-    pub nodes_done : top ≤ i → record { rows = rows; ends = ends; order = order; nodes = nodes } ≡ as_plan (take tests.count tests.rows) order nodes
+    pub nodes_done : top ≤ i → record { rows = rows; ends = ends; order = order; nodes = nodes } ≡ as_plan all order nodes
     unfolding as_plan
     nodes_done h =
         let none : drop i Nodes ≡ [] = drop_of_length-le Nodes {i = i} (rw length-take (omega arith)) in
-        let all : All ≡ take tests.count tests.rows = ap (λ n. take n tests.rows) inv.sized.low
-        ∙ take_low test_room tests.count tests.rows inv.sized.long in
         let o : Nodes ≡ take nodes order = ap (λ n. take n order) inv.sized.few ∙ take_low node_room nodes order inv.sized.full in
         ap₂ (λ (r : List Test) (e : List ℕ). record { rows = r; ends = e; order = order; nodes = nodes })
-        (sym (rows_done All Nodes (record { rows = rows; count = count })
-        (inv.going.same ∙ ap (λ o. add_all (record { rows = rows; count = count }) (listed_by All o)) none)))
-        (sym (inv.going.marked ∙ ap (λ o. sets ends i (ends_from count All o)) none ∙ ends_none ends i count All))
-        ∙ ap₂ (λ (a : List Test) (o : List ℕ). record {
-          rows = take test_room (listed_by a o ++ replicate test_room no_test);
-          ends =
-              padded node_room 0 (ends_from 0 a o);
+        (sym (rows_done all Nodes (record { rows = rows; count = count })
+        (inv.going.same ∙ ap (λ o. add_all (record { rows = rows; count = count }) (listed_by all o)) none)))
+        (sym (inv.going.marked ∙ ap (λ o. sets ends i (ends_from count all o)) none ∙ ends_none ends i count all))
+        ∙ ap (λ (o : List ℕ). record {
+          rows = take test_room (listed_by all o ++ replicate test_room no_test);
+          ends = padded node_room 0 (ends_from 0 all o);
           order = order;
           nodes = nodes;
-        }) all o
+        }) o
 
-  module _ (rows : List Test) (ends : List ℕ) (count i k j : ℕ) (inv : AtRow rows ends count i k j) where
-    -- the test at the place
-    next_row : (d : Test) → j < last → drop j All ≡ get_or tests.rows j d ∷ drop (suc j) All
-    next_row d h = drop-cons All j d (rw length-take (omega (arith, inv.sized.low, inv.sized.long)))
-        ∙ ap (λ x. x ∷ drop (suc j) All) (get_or-take last tests.rows j d h)
+  module _ (rows : List Test) (ends : List ℕ) (count i j : ℕ) (inv : AtRow rows ends count i j) where
+    abbrev node : ℕ
+    node = get_or order i 0
 
     -- what is listed then, otherwise said
-    then_as : (rows' : List Test) (count' j' : ℕ) → j' ≤ last → then All rows count k j ≡ then All rows' count' k j' → AtRow rows' ends count' i k j'
-    then_as rows' count' j' h e = record {
+    then_as : (rows' : List Test) (count' j' : ℕ) → then all rows count node j ≡ then all rows' count' node j' → AtRow rows' ends count' i j'
+    then_as rows' count' j' e = record {
       sized = inv.sized;
-      within = h;
       node = inv.node;
-      going = subst (λ l. Planning All Nodes l (set ends i l.count) (suc i)) e inv.going;
+      going = subst (λ l. Planning all Nodes l (set ends i l.count) (suc i)) e inv.going;
     }
 
-    module _ (d : Test) (h : j < last) (b : Bool) (is : b ≡ (eqb (get_or tests.rows j d).node k && ltb count test_room)) where
-      pub row_passed : not b ≡ true → (n : ℕ) → n ≡ j + 1 → AtRow rows ends count i k n
-      row_passed t n z = rw (z, add-one) (then_as rows count (suc j) h
-          (ap (λ ts. add_all (record { rows = rows; count = count }) (rows_for ts k)) (next_row d h)
-          ∙ add_passed (get_or tests.rows j d) (drop (suc j) All) k (record { rows = rows; count = count }) (sym is ∙ not-true b t)))
+    module _ (d : Test) (h : j < length all) (b : Bool) (is : b ≡ (eqb (get_or all j d).node node && ltb count test_room)) where
+      pub row_passed : b ≡ false → (rows' : List Test) (n : ℕ) → rows' ≡ rows → n ≡ count → AtRow rows' ends n i (j + 1)
+      row_passed t rows' n e f = rw (e, f, add-one j) (then_as rows count (suc j)
+          (ap (λ ts. add_all (record { rows = rows; count = count }) (rows_for ts node)) (drop-cons all j d h)
+          ∙ add_passed (get_or all j d) (drop (suc j) all) node (record { rows = rows; count = count }) (sym is ∙ t)))
 
-      pub row_room : not b ≡ false → count < test_room
-      row_room t = (add_put (get_or tests.rows j d) [] k (record { rows = rows; count = count }) (sym is ∙ not-false b t)).0
+      pub row_room : b ≡ true → count < test_room
+      row_room t = (add_put (get_or all j d) [] node (record { rows = rows; count = count }) (sym is ∙ t)).0
 
-      pub row_size : not b ≡ false → (n : ℕ) → n ≡ count * 10 → Fits w64 n
-      row_size t n z = omega (arith, row_room t)
-
-      pub row_fits : not b ≡ false → (n : ℕ) → n ≡ count + 1 → Fits w64 n
-      row_fits t n z = omega (arith, row_room t)
-
-      pub row_put : not b ≡ false → (n m : ℕ) → n ≡ j + 1 → m ≡ count + 1 → AtRow (set rows count (get_or tests.rows j d)) ends m i k n
-      row_put t n m z y = rw (z, y, add-one count, add-one) (then_as (set rows count (get_or tests.rows j d)) (suc count) (suc j) h
-          (ap (λ ts. add_all (record { rows = rows; count = count }) (rows_for ts k)) (next_row d h)
-          ∙ (add_put (get_or tests.rows j d) (drop (suc j) All) k (record { rows = rows; count = count }) (sym is ∙ not-false b t)).1))
+      pub row_put : b ≡ true → (rows' : List Test) (n : ℕ) → rows' ≡ set rows count (get_or all j d) → n ≡ count + 1 → AtRow rows' ends n i (j + 1)
+      row_put t rows' n e f = rw (e, f, add-one count, add-one j) (then_as (set rows count (get_or all j d)) (suc count) (suc j)
+          (ap (λ ts. add_all (record { rows = rows; count = count }) (rows_for ts node)) (drop-cons all j d h)
+          ∙ (add_put (get_or all j d) (drop (suc j) all) node (record { rows = rows; count = count }) (sym is ∙ t)).1))
 
     -- no test left
-    then_none : last ≤ j → then All rows count k j ≡ record { rows = rows; count = count }
+    then_none : length all ≤ j → then all rows count node j ≡ record { rows = rows; count = count }
     unfolding add_all rows_for keep
-    then_none h = ap (λ ts. add_all (record { rows = rows; count = count }) (rows_for ts k)) (drop_of_length-le All {i = j} (rw length-take (omega arith)))
+    then_none h = ap (λ ts. add_all (record { rows = rows; count = count }) (rows_for ts node)) (drop_of_length-le all {i = j} h)
 
-    module _ (h : last ≤ j) where
-      listed_now : Planning All Nodes (record { rows = rows; count = count }) (set ends i count) (suc i)
-      listed_now = subst (λ l. Planning All Nodes l (set ends i l.count) (suc i)) (then_none h) inv.going
+    module _ (h : length all ≤ j) where
+      listed_now : Planning all Nodes (record { rows = rows; count = count }) (set ends i count) (suc i)
+      listed_now = subst (λ l. Planning all Nodes l (set ends i l.count) (suc i)) (then_none h) inv.going
 
       pub rows_fit : Fits w8 count
       rows_fit = omega (arith, listed_now.counted)
@@ -303,7 +271,7 @@ module _ (tests : Tests) (order : List ℕ) (nodes last top : ℕ) where
       pub rows_place : i < node_room
       rows_place = omega (arith, inv.sized.few, inv.node)
 
-      pub rows_next : (n : ℕ) → n ≡ i + 1 → AtNode rows (set ends i count) count n
-      rows_next n z = rw (z, add-one) (record { sized = inv.sized; going = listed_now })
+      pub rows_next : AtNode rows (set ends i count) count (i + 1)
+      rows_next = rw add-one (record { sized = inv.sized; going = listed_now })
 
-pub ruleset planning = (nodes_start, rows_start, nodes_done, row_passed, row_room, row_size, row_fits, row_put, rows_fit, rows_place, rows_next)
+pub ruleset planning = (nodes_start, rows_start, nodes_done, row_passed, row_room, row_put, rows_fit, rows_place, rows_next)

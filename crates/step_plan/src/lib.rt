@@ -20,36 +20,26 @@ pub struct Plan {
 fn goes(node: u8, k: u8, count: usize) -> bool
     ensures { result ≡ (eqb node k && ltb count test_room) }
 {
-    if node != k {
-        return false;
-    }
-    count < limits::TESTS
+    node == k && count < limits::TESTS
 }
 
 // The tests listed by the first `nodes` nodes of `order`, with the order.
+#[tactic(auto, using(crate::proofs::Laws::planning))]
 pub fn plan_tests(tests: Tests, order: [u8; limits::NODES], nodes: usize) -> Plan
     ensures { result ≡ as_plan (take tests.count tests.rows) order nodes }
 {
-    let last = places::lower(tests.count, limits::TESTS);
-    let top = places::lower(nodes, limits::NODES);
+    let listed = tests.listed();
     let mut rows = [graph_tests::no_test(); limits::TESTS];
     let mut ends = [0; limits::NODES];
     let mut end = 0;
-    let mut i = 0;
-    'nodes: while i < top {
-        let k = order[i];
-        let mut j = 0;
-        'rows: while j < last {
-            let t = tests.rows[j];
-            j += 1;
-            if !goes(t.node, k, end) {
-                continue 'rows;
+    for i in 0..nodes.min(limits::NODES) {
+        for t in listed {
+            if goes(t.node, order[i], end) {
+                rows[end] = *t;
+                end += 1;
             }
-            rows[end] = t;
-            end += 1;
         }
         ends[i] = end as u8;
-        i += 1;
     }
     Plan {
         rows,

@@ -8,6 +8,7 @@ use native.Mathlib.Omega.{arith}
 use lib.Dec.{eqb}
 use lib.ListN.{length, get_or, take, drop}
 use borrow.Author.Tests.{eq-eqb, ne_eqb}
+use Rattle.std.specs.Prelude.{Some, None, is_none}
 use Rattle.meaning.specs.Kleene.{Kleene, true₃, false₃, unknown, known₃}
 use Rattle.meaning.specs.Number.{missing}
 use Rattle.meaning.specs.Condition.{Cond}
@@ -28,8 +29,10 @@ use Rattle.sheet_tables.specs.Rules.{as_trigger, words_of}
 use Rattle.graph_tests.specs.declared.Test.{Test}
 use Rattle.graph_tests.specs.Answers.{Stands}
 use Rattle.step_test.specs.declared.Moment as Row
-use Rattle.step_test.specs.Met.{rose_in, fell_in, trigger_met, home_met, condition_value, condition_met, test_met, condition_stop, stop_number}
-use Rattle.step_test.specs.Codes.{as_moment, stop_code}
+use Rattle.step_test.specs.declared.Stop.{Stop}
+use Rattle.step_test.specs.declared.Stop.TheVariants.{TriggerNotMet, HomeNotOpen, ConditionFalse, ConditionUnknown}
+use Rattle.step_test.specs.Met.{rose_in, fell_in, trigger_met, home_met, condition_value, condition_met, test_met, condition_stop, stop_of}
+use Rattle.step_test.specs.Codes.{as_moment, as_stopped}
 
 -- the condition of a test, if any, is one that the machine values rightly
 abbrev pub FitsIf : Option Cond → Type 0
@@ -41,18 +44,17 @@ unfolding words_of
 words_of_lem c = refl
 
 -- a row is met where nothing stopped it
-met_unstopped : (ws : List ℕ) (m : Row.Moment) (after : List ℕ) (r : Test) → test_met ws m after r ≡ eqb (stop_number ws m after r) 0
-unfolding test_met condition_met stop_number
+met_unstopped : (ws : List ℕ) (m : Row.Moment) (after : List ℕ) (r : Test) → test_met ws m after r ≡ is_none (stop_of ws m after r)
+unfolding test_met condition_met stop_of
 met_unstopped ws m after r =
     let v = condition_value ws m.values after r.from r.to in
-    go (trigger_met m.event m.before after r.trigger) (home_met after r.home) (eqb v 2) (eqb v 1)
+    go (trigger_met m.event m.before after r.trigger) (home_met after r.home) (eqb v 2) (cond (eqb v 1) ConditionUnknown ConditionFalse)
   where
-    go : (a b c d : Bool) → a && b && c ≡ eqb (cond a (cond b (cond c 0 (cond d 6 5)) 4) 3) 0
-    go false b c d = refl
-    go true false c d = refl
-    go true true true d = refl
-    go true true false true = refl
-    go true true false false = refl
+    go : (a b c : Bool) (w : Stop) → a && b && c ≡ is_none (cond a (cond b (cond c None (Some w)) (Some HomeNotOpen)) (Some TriggerNotMet))
+    go false b c w = refl
+    go true false c w = refl
+    go true true true w = refl
+    go true true false w = refl
 
 -- A CHANGE
 
@@ -133,12 +135,12 @@ module _ (m : Moment) (half : List Bool) where
           join false b c d = refl
 
       -- WHAT STOPPED IT: the first of its parts that is not true
-      pub stop_same : (sh : M.Sheet) → stop_number ws (as_moment m) (marked half) r ≡ stop_code (first_stop (parts_of sh m half t))
-      unfolding stop_number parts_of first_stop
+      pub stop_same : (sh : M.Sheet) → stop_of ws (as_moment m) (marked half) r ≡ as_stopped (first_stop (parts_of sh m half t))
+      unfolding stop_of parts_of first_stop
       stop_same sh = rw (trigger_same, home_same, value_same) (go (triggered m half t.trigger) (housed m half t.home) (condition_on m half t.condition))
         where
-          go : (a b : Bool) (v : Kleene) → cond a (cond b (condition_stop (code v)) 4) 3
-              ≡ stop_code (first_stop (record { value = known₃ a; if_false = trigger_not_met; if_unknown = trigger_not_met }
+          go : (a b : Bool) (v : Kleene) → cond a (cond b (condition_stop (code v)) (Some HomeNotOpen)) (Some TriggerNotMet)
+              ≡ as_stopped (first_stop (record { value = known₃ a; if_false = trigger_not_met; if_unknown = trigger_not_met }
               ∷ record { value = known₃ b; if_false = home_not_open; if_unknown = home_not_open }
               ∷ record { value = v; if_false = condition_false; if_unknown = condition_unknown } ∷ []))
           go false b v = refl
@@ -148,5 +150,5 @@ module _ (m : Moment) (half : List Bool) where
           go true true unknown = refl
 
       -- a test whose before test is met holds where nothing stopped it
-      pub holds_unstopped : allowed m.before t.node ≡ true → holds m half t ≡ eqb (stop_number ws (as_moment m) (marked half) r) 0
+      pub holds_unstopped : allowed m.before t.node ≡ true → holds m half t ≡ is_none (stop_of ws (as_moment m) (marked half) r)
       holds_unstopped a = sym holds_same ∙ rw a (met_unstopped ws (as_moment m) (marked half) r)

@@ -1,5 +1,3 @@
--- Laws of the functions:
-pub mod Laws
 -- What callers use: each part of a test is the meaning's:
 pub mod Callers
 -- No second answer fits:

@@ -1,5 +1,5 @@
 -- A test on the tables of a sheet and the marks of the statuses before and after.
-use Rattle.std.specs.Prelude.{ℕ, zero, suc, ◌-◌, Bool, true, not, ◌&&◌, cond, List, eqb, take, drop}
+use Rattle.std.specs.Prelude.{ℕ, zero, suc, ◌-◌, Bool, true, not, ◌&&◌, cond, List, Option, Some, None, eqb, take, drop}
 use Rattle.meaning.specs.Kleene.{true₃, unknown}
 use Rattle.marks.specs.Codes.{code, is_yes, yes_at}
 use Rattle.cond_value.specs.Machine.{verdict_of}
@@ -7,10 +7,8 @@ use Rattle.sheet_tables.specs.declared.Trigger.{Trigger}
 use Rattle.sheet_tables.specs.declared.Trigger.TheVariants.{Always, Event, Rise, Fall}
 use Rattle.graph_tests.specs.declared.Test.{Test}
 use Rattle.step_test.specs.declared.Moment.{Moment}
-
--- the moment of these parts
-abbrev pub moment_at : ℕ → List ℕ → List ℕ → Moment
-moment_at event values before = record { event = event; values = values; before = before }
+use Rattle.step_test.specs.declared.Stop.{Stop}
+use Rattle.step_test.specs.declared.Stop.TheVariants.{TriggerNotMet, HomeNotOpen, ConditionFalse, ConditionUnknown}
 
 -- a status rose,
 abbrev pub rose_in : List ℕ → List ℕ → ℕ → Bool
@@ -45,13 +43,13 @@ unfoldable pub test_met : List ℕ → Moment → List ℕ → Test → Bool
 test_met words m after t =
     trigger_met m.event m.before after t.trigger && home_met after t.home && condition_met words m.values after t.from t.to
 
--- what a condition stops a test with: nothing where it is true, otherwise 6 where it is unknown and 5 where it is false
-abbrev pub condition_stop : ℕ → ℕ
-condition_stop v = cond (is_yes v) 0 (cond (eqb v (code unknown)) 6 5)
+-- what a condition stops a test with: nothing where it is true
+abbrev pub condition_stop : ℕ → Option Stop
+condition_stop v = cond (is_yes v) None (Some (cond (eqb v (code unknown)) ConditionUnknown ConditionFalse))
 
--- the first thing that stopped a test: 3 for its trigger, 4 for its home, then its condition; 0 where nothing did
-unfoldable pub stop_number : List ℕ → Moment → List ℕ → Test → ℕ
-stop_number words m after t =
+-- the first thing that stopped a test: its trigger, its home, then its condition; none where nothing did
+unfoldable pub stop_of : List ℕ → Moment → List ℕ → Test → Option Stop
+stop_of words m after t =
     cond (trigger_met m.event m.before after t.trigger)
-    (cond (home_met after t.home) (condition_stop (condition_value words m.values after t.from t.to)) 4)
-    3
+    (cond (home_met after t.home) (condition_stop (condition_value words m.values after t.from t.to)) (Some HomeNotOpen))
+    (Some TriggerNotMet)

@@ -2,7 +2,7 @@
 #![tactic(auto)]
 
 ghost use Rattle.std.specs.Prelude.{◌≡◌};
-ghost use Rattle.step_test.specs.Met.{moment_at, rose_in, fell_in, trigger_met, home_met, condition_value, condition_met, test_met, stop_number};
+ghost use Rattle.step_test.specs.Met.{rose_in, fell_in, trigger_met, home_met, condition_value, condition_met, test_met, stop_of};
 
 use graph_tests::Test;
 use marks::{Marks, Values};
@@ -16,24 +16,27 @@ pub struct Moment {
     pub before: Marks,
 }
 
+// The first thing that stopped a test, with the number of its kind.
+#[derive(Clone, Copy)]
+pub enum Stop {
+    TriggerNotMet = 3,
+    HomeNotOpen = 4,
+    ConditionFalse = 5,
+    ConditionUnknown = 6,
+}
+
 // The status was no before and is yes after.
 pub fn rose(before: &Marks, after: &Marks, x: u8) -> bool
     ensures { result ≡ rose_in before.now after.now x }
 {
-    if !marks::yes(after, x) {
-        return false;
-    }
-    !marks::yes(before, x)
+    marks::yes(after, x) && !marks::yes(before, x)
 }
 
 // The status was yes before and is no after.
 pub fn fell(before: &Marks, after: &Marks, x: u8) -> bool
     ensures { result ≡ fell_in before.now after.now x }
 {
-    if !marks::yes(before, x) {
-        return false;
-    }
-    !marks::yes(after, x)
+    marks::yes(before, x) && !marks::yes(after, x)
 }
 
 // No trigger, the event, or a change: a rise or a fall reads both sides.
@@ -42,7 +45,7 @@ pub fn trigger_met(t: Trigger, event: usize, before: &Marks, after: &Marks) -> b
 {
     match t {
         Trigger::Always => true,
-        Trigger::Event(e) => places::of_byte(e) == event,
+        Trigger::Event(e) => usize::from(e) == event,
         Trigger::Rise(y) => rose(before, after, y),
         Trigger::Fall(y) => fell(before, after, y),
     }
@@ -52,29 +55,22 @@ pub fn trigger_met(t: Trigger, event: usize, before: &Marks, after: &Marks) -> b
 pub fn home_met(after: &Marks, home: u8) -> bool
     ensures { result ≡ home_met after.now home }
 {
-    if home == 0 {
-        return true;
-    }
-    marks::yes(after, home - 1)
+    home == 0 || marks::yes(after, home - 1)
 }
 
 // How the condition stands, as a mark. None is true.
+#[tactic(auto, unfolding(crate::specs::Met::condition_value))]
 pub fn condition_value(words: &[u64], from: u16, to: u16, values: &Values, after: &Marks) -> u8
     ensures { result ≡ condition_value words.now values.now after.now from to }
 {
     if from == to {
         return marks::YES;
     }
-    cond_value::verdict(
-        words,
-        places::of_pair(from),
-        places::of_pair(to),
-        values,
-        after,
-    )
+    cond_value::verdict(words, usize::from(from), usize::from(to), values, after)
 }
 
 // No condition, or one that is true: unknown is not enough.
+#[tactic(auto, unfolding(crate::specs::Met::condition_met))]
 pub fn condition_met(words: &[u64], from: u16, to: u16, values: &Values, after: &Marks) -> bool
     ensures { result ≡ condition_met words.now values.now after.now from to }
 {
@@ -82,50 +78,29 @@ pub fn condition_met(words: &[u64], from: u16, to: u16, values: &Values, after: 
 }
 
 // The test is met by a card before and after, but for its before test, which is the node's.
-pub fn test_met(
-    t: Test,
-    words: &[u64],
-    event: usize,
-    values: &Values,
-    before: &Marks,
-    after: &Marks,
-) -> bool
-    ensures { result ≡ test_met words.now (moment_at event values.now before.now) after.now t }
+#[tactic(auto, unfolding(crate::specs::Met::test_met))]
+pub fn test_met(t: Test, words: &[u64], moment: &Moment, after: &Marks) -> bool
+    ensures { result ≡ test_met words.now moment.now after.now t }
 {
-    let trigger = t.trigger;
-    if !trigger_met(trigger, event, before, after) {
-        return false;
-    }
-    if !home_met(after, t.home) {
-        return false;
-    }
-    condition_met(words, t.from, t.to, values, after)
+    trigger_met(t.trigger, moment.event, &moment.before, after)
+        && home_met(after, t.home)
+        && condition_met(words, t.from, t.to, &moment.values, after)
 }
 
-// The first thing that stopped the test, but for its before test: 3 its trigger, 4 its home, 5 a false condition, 6 an unknown one; 0 where nothing did.
-pub fn stopped(
-    t: Test,
-    words: &[u64],
-    event: usize,
-    values: &Values,
-    before: &Marks,
-    after: &Marks,
-) -> u8
-    ensures { result ≡ stop_number words.now (moment_at event values.now before.now) after.now t }
+// The first thing that stopped the test, but for its before test; none where nothing did.
+#[tactic(auto, unfolding(crate::specs::Met::stop_of))]
+pub fn stopped(t: Test, words: &[u64], moment: &Moment, after: &Marks) -> Option<Stop>
+    ensures { result ≡ stop_of words.now moment.now after.now t }
 {
-    let trigger = t.trigger;
-    if !trigger_met(trigger, event, before, after) {
-        return 3;
+    if !trigger_met(t.trigger, moment.event, &moment.before, after) {
+        return Some(Stop::TriggerNotMet);
     }
     if !home_met(after, t.home) {
-        return 4;
+        return Some(Stop::HomeNotOpen);
     }
-    let value = condition_value(words, t.from, t.to, values, after);
-    if value == marks::YES {
-        return 0;
+    match condition_value(words, t.from, t.to, &moment.values, after) {
+        marks::YES => None,
+        marks::UNKNOWN => Some(Stop::ConditionUnknown),
+        _ => Some(Stop::ConditionFalse),
     }
-    if value == marks::UNKNOWN {
-        return 6;
-    }
-    5
 }

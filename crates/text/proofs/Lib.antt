@@ -1,3 +1,4 @@
+pub mod Exits
 pub mod Laws
 pub mod Callers
 pub mod Only

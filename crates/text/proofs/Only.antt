@@ -2,6 +2,7 @@
 use Rattle.theory.specs.Determined.{Determines, Settles, only}
 use Rattle.text.proofs.starts.Reads as Starts
 use Rattle.text.proofs.rest.Reads as Rest
+use Rattle.text.proofs.due_or.Reads as DueOr
 use Rattle.text.proofs.due_text.Reads as DueText
 
 pub starts_only : Determines Starts.Learnt
@@ -13,3 +14,7 @@ rest_only κs a r q s t = only
 
 pub due_text_only : Determines DueText.Learnt
 due_text_only κs a r q s t = only
+
+-- at every type
+pub due_or_only : (T : _) (L : _) (C : _) (G : _) (D : _) → Determines (DueOr.Learnt T L C G D)
+due_or_only T L C G D κs a r q s t = only

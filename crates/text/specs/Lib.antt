@@ -1,2 +1,2 @@
 -- What the code answers for what the meaning reads:
-pub mod Answers
+pub mod Pieces

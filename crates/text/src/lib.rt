@@ -4,51 +4,48 @@
 ghost use Rattle.std.specs.Prelude.{◌≡◌, drop};
 ghost use Rattle.meaning.specs.Text.{begins};
 ghost use Rattle.meaning.specs.Reading.{due};
-ghost use Rattle.text.specs.Answers.{as_bytes};
+ghost use Rattle.reply.specs.Faults.{number_of};
+ghost use Rattle.text.specs.Pieces.{as_due, as_length};
 
-// A piece whose text is known: how many bytes it took, or the refusal's number.
+use reply::Fault;
+
+// A piece of a paper that was read: what it says, and how many bytes it took.
 #[derive(Clone, Copy)]
-pub enum Bytes {
-    Read(usize),
-    Refused(u8),
+pub struct Taken<T> {
+    pub value: T,
+    pub bytes: usize,
 }
 
 // Whether `s` begins with `k`.
 pub fn starts(s: &[u8], k: &[u8]) -> bool
     ensures { result ≡ begins k.now s.now }
 {
-    let mut i = 0;
-    while i < k.len() {
-        if s.len() <= i {
-            return false;
-        }
-        if s[i] != k[i] {
-            return false;
-        }
-        i += 1;
-    }
-    true
+    s.starts_with(k)
 }
 
 // What is left of `s` from `at` on; nothing where `at` lies behind its end.
 pub fn rest(s: &[u8], at: usize) -> &[u8]
     ensures { result.now ≡ drop at s.now }
 {
-    if at <= s.len() {
-        return &s[at..];
-    }
-    &s[..0]
+    s.get(at..).unwrap_or(&[])
 }
 
-// The fixed text `k` that is due at the start of `s`; where another stands, the refusal `n`.
-pub fn due_text(s: &[u8], k: &[u8], n: u8) -> Bytes
-    ensures { result ≡ as_bytes s.now (due n k.now 0 s.now) }
+// The fixed text `k` that is due at the start of `s`, and how long it is; `ended` where nothing is left of `s`, `other` where another stands.
+pub fn due_or<E: Copy>(s: &[u8], k: &[u8], ended: E, other: E) -> Result<usize, E>
+    ensures { result ≡ as_due ended other s.now (due 0 k.now 0 s.now) }
 {
-    if s.len() == 0 {
-        return Bytes::Refused(reply::LINE);
+    if s.is_empty() {
+        return Err(ended);
     }
     if !starts(s, k) {
-        return Bytes::Refused(n);
+        return Err(other);
     }
-    Bytes::Read(k.len())
+    Ok(k.len())
+}
+
+// The fixed text `k` that is due at the start of `s`; where another stands, the fault `n`.
+pub fn due_text(s: &[u8], k: &[u8], n: Fault) -> Result<usize, Fault>
+    ensures { result ≡ as_length s.now (due (number_of n) k.now 0 s.now) }
+{
+    due_or(s, k, Fault::Line, n)
 }

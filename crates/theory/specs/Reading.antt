@@ -8,6 +8,7 @@ pub mod Told
 pub mod Suffix
 pub mod Answer
 pub mod Answered
+pub mod Piece
 pub mod Shown
 pub mod Fixed
 pub mod Sections

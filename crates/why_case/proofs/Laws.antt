@@ -13,6 +13,7 @@ use borrow.Author.Tests.{eq-eqb, ne_eqb, lt-ltb, le-ltb, le-leb, lt-leb, not-tru
 use lib.Dec.{eqb, ltb, leb}
 use lib.ListN.{length, length-map, length-take, length-append, length-set, drop_of_length-le, get_or, take, drop, set, replicate}
 use lib.Seq.{sets, length-sets, take-nil, drop-cons, get_or-take, get_or-set_same, get_or-set_other}
+use Rattle.std.specs.Prelude.{Option}
 use Rattle.meaning.specs.Text.{keep, joined, from}
 use Rattle.meaning.specs.Refusal.{ROOM}
 use Rattle.meaning.specs.Limits.{status_limit}
@@ -23,7 +24,8 @@ use Rattle.places.proofs.Callers.{lower_place}
 use Rattle.graph_tests.specs.declared.Test.{Test}
 use Rattle.step_plan.specs.declared.Plan.{Plan}
 use Rattle.step_test.specs.declared.Moment.{Moment}
-use Rattle.step_test.specs.Met.{stop_number}
+use Rattle.step_test.specs.declared.Stop.{Stop}
+use Rattle.step_test.specs.Met.{stop_of}
 use Rattle.step_run.specs.Run.{start_of, run_over}
 use Rattle.step_sheet.specs.declared.Accepted.{Accepted}
 use Rattle.reply.specs.declared.Reply.{Reply}
@@ -87,29 +89,18 @@ pub ruleset spanning = (span_start, span_done, lower_place, span_node, span_next
 
 -- ONE ROW
 
-module _ (stop : ℕ) where
-  pub kind_held : stop ≡ 0 → 1 ≡ kind_code stop
-  kind_held e = rw e
-
-  pub kind_stopped : (stop ≡ 0 → ⊥) → stop ≡ kind_code stop
-  kind_stopped n = go stop n
-    where
-      go : (s : ℕ) → (s ≡ 0 → ⊥) → s ≡ kind_code s
-      go zero n = absurd (n refl)
-      go (suc s) n = refl
-
-module _ (words : List ℕ) (event : ℕ) (values before after : List ℕ) (t : Test) where
-  pub row_implied : t.line ≡ 0 → 0 ≡ row_told words (record { event = event; values = values; before = before }) after t
+module _ (words : List ℕ) (m : Moment) (after : List ℕ) (t : Test) where
+  pub row_implied : t.line ≡ 0 → 0 ≡ row_told words m after t
   unfolding row_told
   row_implied e = rw (eq-eqb t.line 0 e)
 
-  pub row_written : (t.line ≡ 0 → ⊥) → (s : ℕ) → s ≡ stop_number words (record { event = event; values = values; before = before }) after t → (l k r : ℕ)
+  pub row_written : (t.line ≡ 0 → ⊥) → (s : Option Stop) → s ≡ stop_of words m after t → (l k r : ℕ)
       → l ≡ t.line → k ≡ kind_code s → r ≡ l * 10 + k
-      → r ≡ row_told words (record { event = event; values = values; before = before }) after t
+      → r ≡ row_told words m after t
   unfolding row_told
   row_written n s is l k r e f z = z ∙ ap₂ (λ l k. l * 10 + k) e (f ∙ ap kind_code is) ∙ sym (rw (ne_eqb t.line 0 n))
 
-pub ruleset rowing = (kind_held, kind_stopped, row_implied, row_written)
+pub ruleset rowing = (row_implied, row_written)
 
 -- ALL ROWS
 

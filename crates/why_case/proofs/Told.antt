@@ -9,6 +9,7 @@ use native.Mathlib.Omega.{arith}
 use borrow.Author.Tests.{eq-eqb, ne_eqb}
 use lib.Dec.{eqb, ltb}
 use lib.ListN.{get_or}
+use Rattle.std.specs.Prelude.{is_none}
 use Rattle.meaning.specs.Text.{In, keep, joined}
 use Rattle.meaning.specs.Sheet.{Sheet}
 use Rattle.meaning.specs.Card.{is}
@@ -25,7 +26,7 @@ use Rattle.marks.specs.Codes.{mark_code, marked}
 use Rattle.marks.proofs.Callers.{mark_at_lem, mark_yes}
 use Rattle.graph_tests.specs.declared.Test.{Test}
 use Rattle.graph_tests.specs.Answers.{Stands, Standing}
-use Rattle.step_test.specs.Codes.{as_moment, stop_code}
+use Rattle.step_test.specs.Codes.{as_moment, as_stopped}
 use Rattle.step_test.proofs.Callers.{FitsIf, stop_same, holds_unstopped}
 use Rattle.step_run.proofs.Callers.{FitAll}
 use Rattle.why_case.specs.Reasons.{kind_code, row_told, node_of, first_held, stops}
@@ -108,28 +109,28 @@ stop_list l (some w) = (l * 10 + kind_number (stopped w)) ∷ []
 digit : (l k : ℕ) → k < 10 → (l * 10 + k) % 10 ≡ k
 digit l k h = omega arith
 
-kind_low : (w : Option Stop) → kind_code (stop_code w) < 10
+kind_low : (w : Option Stop) → kind_code (as_stopped w) < 10
 kind_low none = omega arith
 kind_low (some trigger_not_met) = omega arith
 kind_low (some home_not_open) = omega arith
 kind_low (some condition_false) = omega arith
 kind_low (some condition_unknown) = omega arith
 
-held_digit : (w : Option Stop) → eqb (kind_code (stop_code w)) 1 ≡ eqb (stop_code w) 0
+held_digit : (w : Option Stop) → eqb (kind_code (as_stopped w)) 1 ≡ is_none (as_stopped w)
 held_digit none = refl
 held_digit (some trigger_not_met) = refl
 held_digit (some home_not_open) = refl
 held_digit (some condition_false) = refl
 held_digit (some condition_unknown) = refl
 
-stop_digit : (w : Option Stop) (l : ℕ) → cond (ltb 1 (kind_code (stop_code w))) ((l * 10 + kind_code (stop_code w)) ∷ []) [] ≡ stop_list l w
+stop_digit : (w : Option Stop) (l : ℕ) → cond (ltb 1 (kind_code (as_stopped w))) ((l * 10 + kind_code (as_stopped w)) ∷ []) [] ≡ stop_list l w
 stop_digit none l = refl
 stop_digit (some trigger_not_met) l = refl
 stop_digit (some home_not_open) l = refl
 stop_digit (some condition_false) l = refl
 stop_digit (some condition_unknown) l = refl
 
-held_one : (w : Option Stop) → eqb (stop_code w) 0 ≡ true → kind_code (stop_code w) ≡ 1
+held_one : (w : Option Stop) → is_none (as_stopped w) ≡ true → kind_code (as_stopped w) ≡ 1
 held_one none e = refl
 held_one (some trigger_not_met) e = absurd (false≢true e)
 held_one (some home_not_open) e = absurd (false≢true e)
@@ -146,12 +147,12 @@ module _ (sh : Sheet) (m : M.Moment) (side : List Bool) (ws : List ℕ) (k : ℕ
 
   -- the row of one test
   module _ (t : T.Test) (r : Test) (s : Stands ws t r) (fits : FitsIf t.condition) (of : t.node ≡ k) where
-    told_as_lem : tells r ≡ cond (eqb t.line 0) 0 (t.line * 10 + kind_code (stop_code (stop t)))
+    told_as_lem : tells r ≡ cond (eqb t.line 0) 0 (t.line * 10 + kind_code (as_stopped (stop t)))
     unfolding row_told
     told_as_lem = ap₂ (λ l n. cond (eqb l 0) 0 (l * 10 + kind_code n)) s.line (stop_same m side ws t r s fits sh)
 
-    told_holds : holds m side t ≡ eqb (stop_code (stop t)) 0
-    told_holds = holds_unstopped m side ws t r s fits (rw of may) ∙ ap (λ n. eqb n 0) (stop_same m side ws t r s fits sh)
+    told_holds : holds m side t ≡ is_none (as_stopped (stop t))
+    told_holds = holds_unstopped m side ws t r s fits (rw of may) ∙ ap is_none (stop_same m side ws t r s fits sh)
 
     -- that of an implied test
     implied_told : eqb t.line 0 ≡ true → tells r ≡ 0
@@ -159,11 +160,11 @@ module _ (sh : Sheet) (m : M.Moment) (side : List Bool) (ws : List ℕ) (k : ℕ
 
     -- and that of a written line
     module _ (e : eqb t.line 0 ≡ false) where
-      written_told : tells r ≡ t.line * 10 + kind_code (stop_code (stop t))
+      written_told : tells r ≡ t.line * 10 + kind_code (as_stopped (stop t))
       written_told = told_as_lem ∙ rw e
 
-      told_digit : tells r % 10 ≡ kind_code (stop_code (stop t))
-      told_digit = ap (λ n. n % 10) written_told ∙ digit t.line (kind_code (stop_code (stop t))) (kind_low (stop t))
+      told_digit : tells r % 10 ≡ kind_code (as_stopped (stop t))
+      told_digit = ap (λ n. n % 10) written_told ∙ digit t.line (kind_code (as_stopped (stop t))) (kind_low (stop t))
 
     -- before others
     module _ (ts : List T.Test) (cs : List ℕ) where
@@ -172,7 +173,7 @@ module _ (sh : Sheet) (m : M.Moment) (side : List Bool) (ws : List ℕ) (k : ℕ
       unfolding first_held first_that
       first_more other later = go (eqb t.line 0) refl
         where
-          held : (b : Bool) → eqb (stop_code (stop t)) 0 ≡ b → eqb t.line 0 ≡ false
+          held : (b : Bool) → is_none (as_stopped (stop t)) ≡ b → eqb t.line 0 ≡ false
               → cond b (tells r) (first_held cs other) ≡ held_code other (cond b (some t) (first_that sh m side (keep written ts)))
           held true q e = written_told e ∙ ap (λ n. t.line * 10 + n) (held_one (stop t) q)
           held false q e = later
@@ -185,7 +186,7 @@ module _ (sh : Sheet) (m : M.Moment) (side : List Bool) (ws : List ℕ) (k : ℕ
               ∙ ap (λ l. held_code other (first_that sh m side l)) (sym (keep_miss written t ts (rw e)))
           go false e =
               ap (λ b. cond b (tells r) (first_held cs other)) (ap (λ d. eqb d 1) (told_digit e) ∙ held_digit (stop t))
-              ∙ held (eqb (stop_code (stop t)) 0) refl e
+              ∙ held (is_none (as_stopped (stop t))) refl e
               ∙ ap (λ b. held_code other (cond b (some t) (first_that sh m side (keep written ts)))) (sym told_holds)
               ∙ ap (λ l. held_code other (first_that sh m side l)) (sym (keep_hit written t ts (rw e)))
 
@@ -204,8 +205,8 @@ module _ (sh : Sheet) (m : M.Moment) (side : List Bool) (ws : List ℕ) (k : ℕ
               ∙ later
               ∙ ap (joined (λ t. stop_list t.line (stop t))) (sym (keep_miss written t ts (rw e)))
           go false e =
-              one (tells r) (ltb 1 (kind_code (stop_code (stop t)))) (ap (ltb 1) (told_digit e))
-              ∙ ap (λ c. cond (ltb 1 (kind_code (stop_code (stop t)))) (c ∷ []) [] ++ stops cs) (written_told e)
+              one (tells r) (ltb 1 (kind_code (as_stopped (stop t)))) (ap (ltb 1) (told_digit e))
+              ∙ ap (λ c. cond (ltb 1 (kind_code (as_stopped (stop t)))) (c ∷ []) [] ++ stops cs) (written_told e)
               ∙ ap₂ ◌++◌ (stop_digit (stop t) t.line) later
               ∙ ap (joined (λ t. stop_list t.line (stop t))) (sym (keep_hit written t ts (rw e)))
 

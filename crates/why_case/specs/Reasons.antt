@@ -1,6 +1,6 @@
 -- Why, for a case that was read, on its tables: what is told of a row, of a status and of all, and what is returned. What is told of a row or a closing is one
 -- number, its line x 10 + the kind.
-use Rattle.std.specs.Prelude.{ℕ, zero, suc, ◌+◌, ◌*◌, ◌-◌, ◌/◌, ◌%◌, ◌≤◌, ◌<◌, ◌≡◌, not, cond, List, [], ◌∷◌, ◌++◌, map, eqb, ltb, leb, length, get_or, take, drop, set, replicate}
+use Rattle.std.specs.Prelude.{ℕ, zero, suc, ◌+◌, ◌*◌, ◌-◌, ◌/◌, ◌%◌, ◌≤◌, ◌<◌, ◌≡◌, not, cond, Option, Some, None, List, [], ◌∷◌, ◌++◌, map, eqb, ltb, leb, length, get_or, take, drop, set, replicate}
 use Rattle.std.proofs.lemmas.List.Edits.{sets}
 use Rattle.meaning.specs.Text.{keep, joined, from}
 use Rattle.meaning.specs.Refusal.{ROOM}
@@ -12,7 +12,9 @@ use Rattle.sheet_tables.specs.Heads.{Sized}
 use Rattle.graph_tests.specs.declared.Test.{Test}
 use Rattle.step_plan.specs.declared.Plan.{Plan}
 use Rattle.step_test.specs.declared.Moment.{Moment}
-use Rattle.step_test.specs.Met.{stop_number}
+use Rattle.step_test.specs.declared.Stop.{Stop}
+use Rattle.step_test.specs.declared.Stop.TheVariants.{TriggerNotMet, HomeNotOpen, ConditionFalse, ConditionUnknown}
+use Rattle.step_test.specs.Met.{stop_of}
 use Rattle.step_run.specs.Run.{start_of, run_over}
 use Rattle.step_sheet.specs.declared.Accepted.{Accepted}
 use Rattle.reply.specs.declared.Reply.{Reply}
@@ -42,14 +44,21 @@ spans_of p = spans_from p 0 (take p.nodes p.order) (record { from = replicate no
 
 -- ONE ROW
 
+-- the kinds of what stopped a row
+abbrev pub stop_kind : Stop → ℕ
+stop_kind TriggerNotMet = 3
+stop_kind HomeNotOpen = 4
+stop_kind ConditionFalse = 5
+stop_kind ConditionUnknown = 6
+
 -- a row that nothing stopped held, which is kind 1
-abbrev pub kind_code : ℕ → ℕ
-kind_code zero = 1
-kind_code (suc n) = suc n
+abbrev pub kind_code : Option Stop → ℕ
+kind_code None = 1
+kind_code (Some s) = stop_kind s
 
 -- its line and kind; an implied row stands on no line, and nothing is told of it
 unfoldable pub row_told : List ℕ → Moment → List ℕ → Test → ℕ
-row_told words m after t = cond (eqb t.line 0) 0 (t.line * 10 + kind_code (stop_number words m after t))
+row_told words m after t = cond (eqb t.line 0) 0 (t.line * 10 + kind_code (stop_of words m after t))
 
 -- what is told of rows and closings stays below this
 abbrev pub Low : List ℕ → Type 0

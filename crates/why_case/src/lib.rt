@@ -4,15 +4,14 @@
 ghost use Rattle.std.specs.Prelude.{◌≡◌, map, ◌+◌, ◌≤◌, ◌<◌, length};
 ghost use Rattle.meaning.specs.Limits.{status_limit};
 ghost use Rattle.limits.specs.Sizes.{node_room, test_room};
-ghost use Rattle.step_test.specs.Met.{moment_at};
 ghost use Rattle.why_case.specs.Reasons.{first_status, LowNodes, spans_of, kind_code, row_told, Low, node_of, status_of, first_held, stops, between, reason, reasons_for, all_from, Put, closed_told, Ready, list_of, reply_for, space_for};
 
 use graph_tests::Test;
-use marks::{Marks, Values};
+use marks::Marks;
 use reply::Reply;
 use step_plan::Plan;
 use step_sheet::Accepted;
-use step_test::Moment;
+use step_test::{Moment, Stop};
 
 // Between which places of the plan the rows of each node stand.
 #[derive(Clone, Copy)]
@@ -54,46 +53,37 @@ fn row_spans(plan: Plan) -> Spans
     requires { LowNodes plan }
     ensures { result ≡ spans_of plan }
 {
-    let nodes = places::lower(plan.nodes, limits::NODES);
+    let nodes = plan.nodes.min(limits::NODES);
     let mut from = [0; limits::NODES];
     let mut to = [0; limits::NODES];
     let mut end = 0;
-    let mut i = 0;
-    while i < nodes {
-        let k = places::of_byte(plan.order[i]);
+    for i in 0..nodes {
+        let k = usize::from(plan.order[i]);
         from[k] = end;
         end = plan.ends[i];
         to[k] = end;
-        i += 1;
     }
     Spans { from, to }
 }
 
 // A row that nothing stopped held, which is kind 1.
-fn kind_of(stop: u8) -> u32
+fn kind_of(stop: Option<Stop>) -> u32
     ensures { (result ≡ kind_code stop) × (result < 256) }
 {
-    if stop == 0 {
-        return 1;
+    match stop {
+        None => 1,
+        Some(s) => s as u32,
     }
-    stop as u32
 }
 
 // What is told of a row, its line x 10 + the kind; 0 of an implied one, which stands on no line.
-fn tell_row(
-    t: Test,
-    words: &[u64],
-    event: usize,
-    values: &Values,
-    before: &Marks,
-    after: &Marks,
-) -> u32
-    ensures { (result ≡ row_told words.now (moment_at event values.now before.now) after.now t) × (result < 1000000) }
+fn tell_row(t: Test, words: &[u64], moment: &Moment, after: &Marks) -> u32
+    ensures { (result ≡ row_told words.now moment.now after.now t) × (result < 1000000) }
 {
     if t.line == 0 {
         return 0;
     }
-    let stop = step_test::stopped(t, words, event, values, before, after);
+    let stop = step_test::stopped(t, words, moment, after);
     line_number(t.line) * 10 + kind_of(stop)
 }
 
@@ -101,15 +91,9 @@ fn tell_row(
 fn tell_rows(plan: Plan, words: &[u64], moment: Moment, after: &Marks) -> [u32; limits::TESTS]
     ensures { (result ≡ map (row_told words.now moment after.now) plan.rows) × Low result }
 {
-    let event = moment.event;
-    let values = moment.values;
-    let before = moment.before;
     let mut rows = [0u32; limits::TESTS];
-    let mut j = 0;
-    while j < limits::TESTS {
-        let t = plan.rows[j];
-        rows[j] = tell_row(t, words, event, &values, &before, after);
-        j += 1;
+    for j in 0..limits::TESTS {
+        rows[j] = tell_row(plan.rows[j], words, &moment, after);
     }
     rows
 }
@@ -156,13 +140,11 @@ fn first_held(rows: &[u32], from: usize, to: usize, other: u32) -> u32
     requires { Low rows.now × (other < 1000000) }
     ensures { (result ≡ first_held (between from to rows.now) other) × (result < 1000000) }
 {
-    let end = places::lower(to, rows.len());
-    let mut j = from;
-    while j < end {
+    let end = to.min(rows.len());
+    for j in from..end {
         if rows[j] % 10 == 1 {
             return rows[j];
         }
-        j += 1;
     }
     other
 }
@@ -222,11 +204,9 @@ fn put_all(facts: Facts, rows: &[u32], statuses: usize, reasons: &mut [u32; limi
     ensures { Put (all_from facts rows.now 0 statuses) 0 result reasons.old reasons.new }
 {
     let mut n = 0;
-    let mut x = 0;
-    while x < statuses {
+    for x in 0..statuses {
         let status = status_at(facts, x);
         n = put_status(status, rows, x, reasons, n);
-        x += 1;
     }
     n
 }
@@ -236,8 +216,7 @@ fn list_all(sheet: Accepted, moment: Moment, reasons: &mut [u32; limits::TESTS])
     requires { Ready sheet moment }
     ensures { Put (list_of sheet moment) 0 result reasons.old reasons.new }
 {
-    let step = step_run::run_step(sheet.plan, &sheet.words, moment);
-    let after = step.marks;
+    let after = step_run::run_step(sheet.plan, &sheet.words, moment);
     let rows = tell_rows(sheet.plan, &sheet.words, moment, &after);
     let spans = row_spans(sheet.plan);
     let before = moment.before;

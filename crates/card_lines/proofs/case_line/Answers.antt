@@ -1,25 +1,17 @@
 -- `card_lines::case_line` meets its contract. The key `case=`, the name that is due and the LF are read one after the other; the first that is wrong decides.
 use borrow.Author.Rules.{rules}
+use Rattle.text.proofs.Exits.{left_by}
 use Rattle.card_lines.proofs.Pieces.{casing}
 use Rattle.card_lines.proofs.case_line.Goals as goal
 
-pub returns-in_default : goal.returns-in_default
-returns-in_default c = search (rules, casing)
+pub returns-in_err-n : goal.returns-in_err-n
+returns-in_err-n c = left_by c.from_residual.ensures (search (rules, casing, c.in_err-n.was))
 
-pub returns-in_default-q : goal.returns-in_default-q
-returns-in_default-q c = search (rules, casing)
+pub returns-in_err-k : goal.returns-in_err-k
+returns-in_err-k c = left_by c.from_residual-in_err-k.ensures (search (rules, casing, c.in_ok-n.was, c.in_err-k.was))
 
-pub overflow_add-n : goal.overflow_add-n
-overflow_add-n c = search (rules, casing)
-
-pub returns-in_default-e : goal.returns-in_default-e
-returns-in_default-e c = search (rules, casing)
-
-pub overflow_add-result : goal.overflow_add-result
-overflow_add-result c = search (rules, casing)
-
-pub overflow_add-result-2 : goal.overflow_add-result-2
-overflow_add-result-2 c = search (rules, casing)
+pub returns-in_err-e : goal.returns-in_err-e
+returns-in_err-e c = left_by c.from_residual-in_err-e.ensures (search (rules, casing, c.in_ok-n.was, c.in_ok-k.was, c.in_err-e.was))
 
 pub returns : goal.returns
-returns c = search (rules, casing)
+returns c = search (rules, casing, c.in_ok-n.was, c.in_ok-k.was, c.in_ok-e.was)

@@ -1,16 +1,17 @@
 -- `card_lines::field_line` meets its contract. The value is read, and an LF behind it; the first that is wrong decides.
 use borrow.Author.Rules.{rules}
+use Rattle.text.proofs.Exits.{left_by}
 use Rattle.card_lines.proofs.Pieces.{field_lining}
 use Rattle.card_lines.proofs.field_line.Goals as goal
 
-pub returns-in_default : goal.returns-in_default
-returns-in_default c = search (rules, field_lining)
+pub returns-in_err-v : goal.returns-in_err-v
+returns-in_err-v c = left_by c.from_residual.ensures (search (rules, field_lining, c.in_err-v.was))
 
-pub overflow_add-n : goal.overflow_add-n
-overflow_add-n c = search (rules, field_lining)
+pub returns-in_err-line_end : goal.returns-in_err-line_end
+returns-in_err-line_end c = left_by c.from_residual-in_err-line_end.ensures (search (rules, field_lining, c.in_ok-v.was, c.in_err-line_end.was))
 
-pub returns-in_default-e : goal.returns-in_default-e
-returns-in_default-e c = search (rules, field_lining)
+pub overflow_add-v : goal.overflow_add-v
+overflow_add-v c = search (rules, field_lining, c.in_ok-v.was)
 
 pub returns : goal.returns
-returns c = search (rules, field_lining)
+returns c = search (rules, field_lining, c.in_ok-v.was, c.in_ok-line_end.was)

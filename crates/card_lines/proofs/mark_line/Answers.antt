@@ -1,25 +1,17 @@
 -- `card_lines::mark_line` meets its contract. The key, the word and the LF are read one after the other; the first that is wrong decides.
 use borrow.Author.Rules.{rules}
+use Rattle.text.proofs.Exits.{left_by}
 use Rattle.card_lines.proofs.Pieces.{mark_lining}
 use Rattle.card_lines.proofs.mark_line.Goals as goal
 
-pub returns-in_default : goal.returns-in_default
-returns-in_default c = search (rules, mark_lining)
+pub returns-in_err-n : goal.returns-in_err-n
+returns-in_err-n c = left_by c.from_residual.ensures (search (rules, mark_lining, c.in_err-n.was))
 
-pub returns-in_default-m : goal.returns-in_default-m
-returns-in_default-m c = search (rules, mark_lining)
+pub returns-in_err-m : goal.returns-in_err-m
+returns-in_err-m c = left_by c.from_residual-in_err-m.ensures (search (rules, mark_lining, c.in_ok-n.was, c.in_err-m.was))
 
-pub overflow_add-n : goal.overflow_add-n
-overflow_add-n c = search (rules, mark_lining)
-
-pub returns-in_default-e : goal.returns-in_default-e
-returns-in_default-e c = search (rules, mark_lining)
-
-pub overflow_add-result : goal.overflow_add-result
-overflow_add-result c = search (rules, mark_lining)
-
-pub overflow_add-result-2 : goal.overflow_add-result-2
-overflow_add-result-2 c = search (rules, mark_lining)
+pub returns-in_err-e : goal.returns-in_err-e
+returns-in_err-e c = left_by c.from_residual-in_err-e.ensures (search (rules, mark_lining, c.in_ok-n.was, c.in_ok-m.was, c.in_err-e.was))
 
 pub returns : goal.returns
-returns c = search (rules, mark_lining)
+returns c = search (rules, mark_lining, c.in_ok-n.was, c.in_ok-m.was, c.in_ok-e.was)

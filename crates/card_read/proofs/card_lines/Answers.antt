@@ -1,50 +1,24 @@
--- `card_read::card_lines` meets its contract. Behind the lines of the statuses the last line is read; the first refusal decides, and otherwise the tables hold
--- the card.
+-- `card_read::card_lines` meets its contract. The first line, the fields, the statuses and the last line are read one after the other; the first that is wrong
+-- decides.
 use borrow.Author.Rules.{rules}
+use Rattle.text.proofs.Exits.{left_by}
 use Rattle.card_read.proofs.Cards.{carding}
 use Rattle.card_read.proofs.card_lines.Goals as goal
 
-pub card_fields-f-requires : goal.card_fields-f-requires
-card_fields-f-requires c = search (rules, carding)
+pub returns-in_err-n : goal.returns-in_err-n
+returns-in_err-n c = left_by c.from_residual.ensures (search (rules, carding, c.in_err-n.was))
 
-pub card_marks-m-requires : goal.card_marks-m-requires
-card_marks-m-requires c = search (rules, carding)
+pub returns-in_err-f : goal.returns-in_err-f
+returns-in_err-f c = left_by c.from_residual-in_err-f.ensures (search (rules, carding, c.in_ok-n.was, c.in_err-f.was))
 
-pub card_refused-requires : goal.card_refused-requires
-card_refused-requires c = search (rules, carding)
+pub returns-in_err-m : goal.returns-in_err-m
+returns-in_err-m c = left_by c.from_residual-in_err-m.ensures (search (rules, carding, c.in_ok-n.was, c.in_ok-f.was, c.in_err-m.was))
 
-pub returns-then-m-ne0 : goal.returns-then-m-ne0
-returns-then-m-ne0 c = search (rules, carding)
+pub returns-in-Err : goal.returns-in-Err
+returns-in-Err c = search (rules, carding, c.in_ok-n.was, c.in_ok-f.was, c.in_ok-m.was)
 
-pub overflow_add-statuses : goal.overflow_add-statuses
-overflow_add-statuses c = search (rules, carding)
+pub returns-in-Ok : goal.returns-in-Ok
+returns-in-Ok c = search (rules, carding, c.in_ok-n.was, c.in_ok-f.was, c.in_ok-m.was)
 
-pub rest-requires : goal.rest-requires
-rest-requires c = search (rules, carding)
-
-pub overflow_add-h : goal.overflow_add-h
-overflow_add-h c = search (rules, carding)
-
-pub end_line-e-requires : goal.end_line-e-requires
-end_line-e-requires c = search (rules, carding)
-
-pub enum_known-e : goal.enum_known-e
-enum_known-e c = search (rules, carding)
-
-pub overflow_add-m : goal.overflow_add-m
-overflow_add-m c = search (rules, carding)
-
-pub card_refused-requires-in-Refused : goal.card_refused-requires-in-Refused
-card_refused-requires-in-Refused c = search (rules, carding)
-
-pub enum_told-1 : goal.enum_told-1
-enum_told-1 c = search (rules, carding)
-
-pub card_taken-requires : goal.card_taken-requires
-card_taken-requires c = search (rules, carding)
-
-pub returns-in-Refused : goal.returns-in-Refused
-returns-in-Refused c = search (rules, carding)
-
-pub returns-in-Done : goal.returns-in-Done
-returns-in-Done c = search (rules, carding)
+pub overflow_add-result-in-Err : goal.overflow_add-result-in-Err
+overflow_add-result-in-Err c = search (rules, carding)

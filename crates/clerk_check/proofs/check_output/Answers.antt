@@ -8,14 +8,11 @@ use Rattle.clerk_check.proofs.check_output.Goals as goal
 pub put_refusal-requires : goal.put_refusal-requires
 put_refusal-requires c = search (rules, refusal_room check_room tt)
 
-pub returns-then-read-ne0 : goal.returns-then-read-ne0
-returns-then-read-ne0 c = search (rules, checking)
+pub returns-in-Err : goal.returns-in-Err
+returns-in-Err c = search (rules, checking)
 
 pub tests_of-tests-requires : goal.tests_of-tests-requires
 tests_of-tests-requires c = search (rules, checking)
-
-pub slice_bounds-put_sheet-end : goal.slice_bounds-put_sheet-end
-slice_bounds-put_sheet-end c = search (rules, checking)
 
 pub put_sheet-requires : goal.put_sheet-requires
 put_sheet-requires c = search (rules, checking)

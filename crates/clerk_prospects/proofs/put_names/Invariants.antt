@@ -1,5 +1,4 @@
 -- The names of a pattern. The loop: those of the statuses that are left are still to be written.
-use Prim.Native.Nat.{◌-◌}
 use lib.ListN.{drop}
 use mathlib.Core.Bool.{false}
 use Rattle.name.specs.Names.{names_in}
@@ -10,6 +9,3 @@ use Rattle.clerk_prospects.proofs.put_names.Given as goal
 abbrev pub invariant-loop-i : goal.invariant-loop-i
 invariant-loop-i l =
     Left l.at (names_text false (names_in l.names) l.pattern) l.initial.out l.to (names_text l.behind (drop l.i (names_in l.names)) l.p) l.out
-
-abbrev pub decreases-loop-i : goal.decreases-loop-i
-decreases-loop-i l = l.count - l.i

@@ -8,17 +8,8 @@ loop-i-init c = search (rules, rounding)
 pub put_place-to-requires : goal.put_place-to-requires
 put_place-to-requires c = search (rules, rounding)
 
-pub overflow_add-i : goal.overflow_add-i
-overflow_add-i c = search (rules, rounding)
-
-pub loop-i-smaller : goal.loop-i-smaller
-loop-i-smaller c = search (rules, rounding)
-
 pub loop-i-preserved : goal.loop-i-preserved
 loop-i-preserved c = search (rules, rounding)
-
-pub shape_of-out : goal.shape_of-out
-shape_of-out c = search (rules, rounding)
 
 pub returns : goal.returns
 returns c = search (rules, rounding)

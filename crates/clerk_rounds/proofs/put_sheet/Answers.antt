@@ -12,8 +12,8 @@ testing_order-sorted-requires c = search (rules, sheeting)
 pub put_counts-requires : goal.put_counts-requires
 put_counts-requires c = search (rules, sheeting)
 
-pub returns-then-sorted : goal.returns-then-sorted
-returns-then-sorted c = search (rules, sheeting)
+pub returns-then-is_some : goal.returns-then-is_some
+returns-then-is_some c = search (rules, sheeting)
 
 pub circle_of-requires : goal.circle_of-requires
 circle_of-requires c = search (rules, sheeting)

@@ -1,22 +1,10 @@
 -- `cond_leaf::read_leaf` meets its contract: the name decides, and comparing packed names finds what comparing names finds.
 use borrow.Author.Rules.{rules}
-use Rattle.cond_leaf.proofs.Leaves.{leafing}
+use Rattle.cond_leaf.proofs.Leaves.{leaf_known, leafing}
 use Rattle.cond_leaf.proofs.read_leaf.Goals as goal
 
-pub name_piece-p-requires : goal.name_piece-p-requires
-name_piece-p-requires c = search (rules, leafing)
+pub returns-in_err-w : goal.returns-in_err-w
+returns-in_err-w c = search (rules, leafing)
 
-pub enum_known-p : goal.enum_known-p
-enum_known-p c = search (rules, leafing)
-
-pub enum_known-p-in-Name-1 : goal.enum_known-p-in-Name-1
-enum_known-p-in-Name-1 c = search (rules, leafing)
-
-pub known_leaf-requires : goal.known_leaf-requires
-known_leaf-requires c = search (rules, leafing)
-
-pub returns-in-Refused : goal.returns-in-Refused
-returns-in-Refused c = search (rules, leafing)
-
-pub returns-in-Name : goal.returns-in-Name
-returns-in-Name c = search (rules, leafing)
+pub returns : goal.returns
+returns c = leaf_known _ _ _ _ _ _ c.name_piece.ensures _ c.in_ok-w.was _ c.known_leaf.ensures

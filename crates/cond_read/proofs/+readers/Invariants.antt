@@ -17,15 +17,15 @@ decreases-item l = 3 * l.around.nest
 abbrev pub invariant-and_list-loop-q : goal.invariant-and_list-loop-q
 invariant-and_list-loop-q l =
     Going (ands (names_in l.statuses) (names_in l.fields) l.around.neg l.around.nest)
-    l.s l.top l.leaves l.initial.words (record { bytes = l.at; top = l.next; leaves = l.count }) l.joined l.words
+    l.s l.top l.leaves l.initial.words l.place l.joined l.words
 
 abbrev pub decreases-and_list-loop-q : goal.decreases-and_list-loop-q
-decreases-and_list-loop-q l = length l.s - l.at
+decreases-and_list-loop-q l = length l.s - l.place.bytes
 
 abbrev pub invariant-condition-loop-q : goal.invariant-condition-loop-q
 invariant-condition-loop-q l =
     Going (ors (names_in l.statuses) (names_in l.fields) l.around.neg l.around.nest)
-    l.s l.top l.leaves l.initial.words (record { bytes = l.at; top = l.next; leaves = l.count }) l.joined l.words
+    l.s l.top l.leaves l.initial.words l.place l.joined l.words
 
 abbrev pub decreases-condition-loop-q : goal.decreases-condition-loop-q
-decreases-condition-loop-q l = length l.s - l.at
+decreases-condition-loop-q l = length l.s - l.place.bytes

@@ -3,9 +3,6 @@ use borrow.Author.Rules.{rules}
 use Rattle.desk_print.proofs.Laws.{refusing}
 use Rattle.desk_print.proofs.put_refusal.Goals as goal
 
-pub put_text-a-requires : goal.put_text-a-requires
-put_text-a-requires c = search (rules, refusing)
-
 pub put_number-b-requires : goal.put_number-b-requires
 put_number-b-requires c = search (rules, refusing)
 
@@ -14,9 +11,6 @@ put_number-c-requires c = search (rules, refusing)
 
 pub put_number-requires : goal.put_number-requires
 put_number-requires c = search (rules, refusing)
-
-pub shape_of-out : goal.shape_of-out
-shape_of-out c = search (rules, refusing)
 
 pub returns : goal.returns
 returns c = search (rules, refusing)

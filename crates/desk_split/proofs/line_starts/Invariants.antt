@@ -1,11 +1,6 @@
 -- Where the lines start. The loop: the starts that stand and those that are still to be told give the whole.
-use Prim.Native.Nat.{◌-◌}
-use lib.ListN.{length}
 use Rattle.desk_split.proofs.Laws.{Starting}
 use Rattle.desk_split.proofs.line_starts.Given as goal
 
 abbrev pub invariant-loop-l : goal.invariant-loop-l
 invariant-loop-l l = Starting l.s l.initial.starts l.at l.l l.starts
-
-abbrev pub decreases-loop-l : goal.decreases-loop-l
-decreases-loop-l l = length l.initial.starts - l.l

@@ -1,11 +1,6 @@
 -- How long the first paper is. The loop: the whole length is what is passed and the length of what is left, where a line starts or not.
-use Prim.Native.Nat.{◌-◌}
-use lib.ListN.{length}
 use Rattle.desk_split.proofs.Laws.{Passing}
 use Rattle.desk_split.proofs.paper_len.Given as goal
 
 abbrev pub invariant-loop-i : goal.invariant-loop-i
 invariant-loop-i l = Passing l.s l.i l.starts
-
-abbrev pub decreases-loop-i : goal.decreases-loop-i
-decreases-loop-i l = length l.s - l.i

@@ -1,41 +1,23 @@
--- `event_read::event_line` meets its contract. Behind the pairs the line ends, and nothing stands behind it; the first refusal decides, and otherwise the
--- tables hold the line.
+-- `event_read::event_line` meets its contract. The event is named, its pairs are read behind its name, and the line ends; the first that is wrong decides.
 use borrow.Author.Rules.{rules}
+use Rattle.text.proofs.Exits.{left_by}
 use Rattle.event_read.proofs.Events.{event_lining}
 use Rattle.event_read.proofs.event_line.Goals as goal
 
-pub event_puts-p-requires : goal.event_puts-p-requires
-event_puts-p-requires c = search (rules, event_lining)
+pub returns-in_err-e : goal.returns-in_err-e
+returns-in_err-e c = left_by c.from_residual.ensures (search (rules, event_lining, c.in_err-e.was))
 
-pub event_refused-requires : goal.event_refused-requires
-event_refused-requires c = search (rules, event_lining)
+pub returns-in_err-p : goal.returns-in_err-p
+returns-in_err-p c = left_by c.from_residual-in_err-p.ensures (search (rules, event_lining, c.in_ok-e.was, c.in_err-p.was))
 
-pub returns-then-p-ne0 : goal.returns-then-p-ne0
-returns-then-p-ne0 c = search (rules, event_lining)
+pub returns-in-Err : goal.returns-in-Err
+returns-in-Err c = search (rules, event_lining, c.in_ok-e.was, c.in_ok-p.was)
 
-pub rest-requires : goal.rest-requires
-rest-requires c = search (rules, event_lining)
+pub returns-in-Ok : goal.returns-in-Ok
+returns-in-Ok c = search (rules, event_lining, c.in_ok-e.was, c.in_ok-p.was)
 
-pub closing-q-requires : goal.closing-q-requires
-closing-q-requires c = search (rules, event_lining)
+pub read_puts-requires : goal.read_puts-requires
+read_puts-requires c = search (rules, event_lining, c.in_ok-e.was)
 
-pub enum_known-q : goal.enum_known-q
-enum_known-q c = search (rules, event_lining)
-
-pub overflow_add-o : goal.overflow_add-o
-overflow_add-o c = search (rules, event_lining)
-
-pub event_refused-requires-in-Refused : goal.event_refused-requires-in-Refused
-event_refused-requires-in-Refused c = search (rules, event_lining)
-
-pub enum_told-1 : goal.enum_told-1
-enum_told-1 c = search (rules, event_lining)
-
-pub event_taken-requires : goal.event_taken-requires
-event_taken-requires c = search (rules, event_lining)
-
-pub returns-in-Refused : goal.returns-in-Refused
-returns-in-Refused c = search (rules, event_lining)
-
-pub returns-in-Done : goal.returns-in-Done
-returns-in-Done c = search (rules, event_lining)
+pub overflow_add-result : goal.overflow_add-result
+overflow_add-result c = search (rules, event_lining)

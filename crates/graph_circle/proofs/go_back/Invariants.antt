@@ -4,6 +4,3 @@ use Rattle.graph_circle.proofs.go_back.Given as goal
 
 abbrev pub invariant-loop-at : goal.invariant-loop-at
 invariant-loop-at l = Backing l.masks l.left l.n l.first l.trail l.at l.k
-
-abbrev pub decreases-loop-at : goal.decreases-loop-at
-decreases-loop-at l = l.at

@@ -1,45 +1,11 @@
-use borrow.Author.Rules.{rules}
-use Rattle.graph_tests.proofs.Laws.{shutting}
+use Rattle.std.proofs.Common.{refl}
+use Rattle.graph_tests.proofs.Laws.{closing_none, closing_put}
 use Rattle.graph_tests.proofs.with_closings.Goals as goal
-
-pub lower-last-requires : goal.lower-last-requires
-lower-last-requires c = search (rules, shutting)
-
-pub loop-x-init : goal.loop-x-init
-loop-x-init c = search (rules, shutting)
-
-pub bounds-under-x : goal.bounds-under-x
-bounds-under-x c = search (rules, shutting)
-
-pub overflow_add-x : goal.overflow_add-x
-overflow_add-x c = search (rules, shutting)
-
-pub loop-x-smaller-then-code-eq0 : goal.loop-x-smaller-then-code-eq0
-loop-x-smaller-then-code-eq0 c = search (rules, shutting)
-
-pub loop-x-preserved-then-code-eq0 : goal.loop-x-preserved-then-code-eq0
-loop-x-preserved-then-code-eq0 c = search (rules, shutting)
-
-pub overflow_sub-code : goal.overflow_sub-code
-overflow_sub-code c = search (rules, shutting)
-
-pub closing-requires : goal.closing-requires
-closing-requires c = search (rules, shutting)
-
-pub offset_bounds-rows-count : goal.offset_bounds-rows-count
-offset_bounds-rows-count c = search (rules, shutting)
-
-pub bounds-rows-count : goal.bounds-rows-count
-bounds-rows-count c = search (rules, shutting)
-
-pub overflow_add-count : goal.overflow_add-count
-overflow_add-count c = search (rules, shutting)
-
-pub loop-x-smaller : goal.loop-x-smaller
-loop-x-smaller c = search (rules, shutting)
+use Rattle.graph_tests.proofs.with_closings.Goals.{in-Some, in_default}
 
 pub loop-x-preserved : goal.loop-x-preserved
-loop-x-preserved c = search (rules, shutting)
-
-pub returns : goal.returns
-returns c = search (rules, shutting)
+loop-x-preserved c =
+    elim c.match-checked_sub.branch [
+      | in-Some w ↦ closing_put _ _ _ _ _ c.loop-x.invariant c.loop-x-test.true _ refl _ _ w.in-Some.ensures _ w.closing.ensures w.tests-is
+      | in_default w ↦ closing_none _ _ _ _ _ c.loop-x.invariant c.loop-x-test.true _ refl _ w.in_default.ensures w.tests-is
+    ]

@@ -11,6 +11,3 @@ abbrev pub invariant-loop-i : goal.invariant-loop-i
 invariant-loop-i l =
     (l.from ≤ l.i) × (found_in l.w (take (l.to - l.from) (drop l.from (kept_in l.names)))
     ≡ shifted (l.i - l.from) (found_in l.w (take (l.to - l.i) (drop l.i (kept_in l.names)))))
-
-abbrev pub decreases-loop-i : goal.decreases-loop-i
-decreases-loop-i l = l.to - l.i

@@ -8,12 +8,6 @@ loop-n-init c = search (rules, measuring)
 pub returns-then-v-eq0 : goal.returns-then-v-eq0
 returns-then-v-eq0 c = search (rules, measuring)
 
-pub overflow_add-n : goal.overflow_add-n
-overflow_add-n c = search (rules, measuring)
-
-pub loop-n-smaller : goal.loop-n-smaller
-loop-n-smaller c = search (rules, measuring)
-
 pub loop-n-preserved : goal.loop-n-preserved
 loop-n-preserved c = search (rules, measuring)
 

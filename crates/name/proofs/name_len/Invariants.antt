@@ -8,6 +8,3 @@ use Rattle.name.proofs.name_len.Given as goal
 
 abbrev pub invariant-loop-n : goal.invariant-loop-n
 invariant-loop-n l = (l.n ≤ spell_room) × (length (named l.initial.v) ≡ l.n + length (named_in (spell_room - l.n) l.v))
-
-abbrev pub decreases-loop-n : goal.decreases-loop-n
-decreases-loop-n l = spell_room - l.n

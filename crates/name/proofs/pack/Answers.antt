@@ -5,9 +5,6 @@ use Rattle.name.proofs.pack.Goals as goal
 pub loop-i-init : goal.loop-i-init
 loop-i-init c = search (rules, packing)
 
-pub overflow_sub-i : goal.overflow_sub-i
-overflow_sub-i c = search (rules, packing)
-
 pub bounds-s-i : goal.bounds-s-i
 bounds-s-i c = search (rules, packing)
 
@@ -19,9 +16,6 @@ overflow_mul-w c = search (rules, packing)
 
 pub overflow_add-w : goal.overflow_add-w
 overflow_add-w c = search (rules, packing)
-
-pub loop-i-smaller : goal.loop-i-smaller
-loop-i-smaller c = search (rules, packing)
 
 pub loop-i-preserved : goal.loop-i-preserved
 loop-i-preserved c = search (rules, packing)

@@ -5,14 +5,8 @@ use Rattle.name.proofs.spell.Goals as goal
 pub loop-n-init : goal.loop-n-init
 loop-n-init c = search (rules, spelling)
 
-pub shape_of-out-then-v-eq0 : goal.shape_of-out-then-v-eq0
-shape_of-out-then-v-eq0 c = search (rules, spelling)
-
 pub returns-then-v-eq0 : goal.returns-then-v-eq0
 returns-then-v-eq0 c = search (rules, spelling)
-
-pub symbol_byte-requires : goal.symbol_byte-requires
-symbol_byte-requires c = search (rules, spelling)
 
 pub bounds-out-to : goal.bounds-out-to
 bounds-out-to c = search (rules, spelling)
@@ -20,17 +14,8 @@ bounds-out-to c = search (rules, spelling)
 pub overflow_add-to : goal.overflow_add-to
 overflow_add-to c = search (rules, spelling)
 
-pub overflow_add-n : goal.overflow_add-n
-overflow_add-n c = search (rules, spelling)
-
-pub loop-n-smaller : goal.loop-n-smaller
-loop-n-smaller c = search (rules, spelling)
-
 pub loop-n-preserved : goal.loop-n-preserved
 loop-n-preserved c = search (rules, spelling)
-
-pub shape_of-out : goal.shape_of-out
-shape_of-out c = search (rules, spelling)
 
 pub returns : goal.returns
 returns c = search (rules, spelling)

@@ -6,7 +6,4 @@ use Rattle.name.specs.Names.{spell_room}
 use Rattle.name.proofs.spell.Given as goal
 
 abbrev pub invariant-loop-n : goal.invariant-loop-n
-invariant-loop-n l = Left l.at (named l.initial.v) l.initial.out l.to (named_in (spell_room - l.n) l.v) l.out
-
-abbrev pub decreases-loop-n : goal.decreases-loop-n
-decreases-loop-n l = spell_room - l.n
+invariant-loop-n l = Left l.at (named l.initial.v) l.initial.out l.to (named_in (spell_room - l._n) l.v) l.out

@@ -3,26 +3,14 @@ use borrow.Author.Rules.{rules}
 use Rattle.name.proofs.Spelt.{symbols}
 use Rattle.name.proofs.symbol_byte.Goals as goal
 
-pub returns-then-d-eq0 : goal.returns-then-d-eq0
-returns-then-d-eq0 c = search (rules, symbols)
+pub returns-in-1-to-26 : goal.returns-in-1-to-26
+returns-in-1-to-26 c = search (rules, symbols)
 
-pub overflow_add-result : goal.overflow_add-result
-overflow_add-result c = search (rules, symbols)
+pub returns-in-27-to-36 : goal.returns-in-27-to-36
+returns-in-27-to-36 c = search (rules, symbols)
 
-pub overflow_cast-result : goal.overflow_cast-result
-overflow_cast-result c = search (rules, symbols)
+pub returns-in_default : goal.returns-in_default
+returns-in_default c = search (rules, symbols)
 
-pub returns-then-d-le26 : goal.returns-then-d-le26
-returns-then-d-le26 c = search (rules, symbols)
-
-pub overflow_add-result-then-d-le36 : goal.overflow_add-result-then-d-le36
-overflow_add-result-then-d-le36 c = search (rules, symbols)
-
-pub overflow_cast-result-then-d-le36 : goal.overflow_cast-result-then-d-le36
-overflow_cast-result-then-d-le36 c = search (rules, symbols)
-
-pub returns-then-d-le36 : goal.returns-then-d-le36
-returns-then-d-le36 c = search (rules, symbols)
-
-pub returns : goal.returns
-returns c = search (rules, symbols)
+pub returns-in_default-2 : goal.returns-in_default-2
+returns-in_default-2 c = search (rules, symbols)

@@ -1,10 +1,6 @@
--- `closing` answers what stands behind the count: another byte than the LF, bytes behind it, or nothing.
 use borrow.Author.Rules.{rules}
 use Rattle.number.proofs.Ends.{closing}
 use Rattle.number.proofs.closing.Goals as goal
-
-pub starts-requires : goal.starts-requires
-starts-requires c = search (rules, closing)
 
 pub returns-then-not-starts : goal.returns-then-not-starts
 returns-then-not-starts c = search (rules, closing)

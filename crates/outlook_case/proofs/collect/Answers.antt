@@ -5,9 +5,6 @@ use Rattle.outlook_case.proofs.collect.Goals as goal
 pub loop-x-init : goal.loop-x-init
 loop-x-init c = search (rules, collecting)
 
-pub overflow_sub-x : goal.overflow_sub-x
-overflow_sub-x c = search (rules, collecting)
-
 pub combo-values-requires : goal.combo-values-requires
 combo-values-requires c = search (rules, collecting)
 
@@ -16,9 +13,6 @@ pattern_with-p-requires c = search (rules, collecting)
 
 pub insert-n-requires : goal.insert-n-requires
 insert-n-requires c = search (rules, collecting)
-
-pub loop-x-smaller : goal.loop-x-smaller
-loop-x-smaller c = search (rules, collecting)
 
 pub loop-x-preserved : goal.loop-x-preserved
 loop-x-preserved c = search collect_more

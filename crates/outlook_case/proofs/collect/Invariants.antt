@@ -6,6 +6,3 @@ use Rattle.outlook_case.proofs.collect.Given as goal
 
 abbrev pub invariant-loop-x : goal.invariant-loop-x
 invariant-loop-x l = Collecting (fixed l.plan l.words l.moment) (split l.lens l.flat) l.count l.initial.patterns l.patterns l.n l.x
-
-abbrev pub decreases-loop-x : goal.decreases-loop-x
-decreases-loop-x l = l.x

@@ -6,12 +6,6 @@ use Rattle.outlook_case.proofs.outlook_case.Goals as goal
 pub list_case-listed-requires : goal.list_case-listed-requires
 list_case-listed-requires c = search (rules, answering)
 
-pub enum_known-listed : goal.enum_known-listed
-enum_known-listed c = search (rules, answering)
-
-pub enum_told-1 : goal.enum_told-1
-enum_told-1 c = search (rules, answering)
-
 pub refusal-requires : goal.refusal-requires
 refusal-requires c = search (rules, answering)
 

@@ -3,9 +3,6 @@ use borrow.Author.Rules.{rules}
 use Rattle.outlook_case.proofs.Laws.{choosing}
 use Rattle.outlook_case.proofs.pattern_with.Goals as goal
 
-pub run_step-after-requires : goal.run_step-after-requires
-run_step-after-requires c = search (rules, choosing)
-
 pub pattern_of-requires : goal.pattern_of-requires
 pattern_of-requires c = search (rules, choosing)
 

@@ -2,15 +2,6 @@ use borrow.Author.Rules.{rules}
 use Rattle.outlook_combos.proofs.Laws.{choosing}
 use Rattle.outlook_combos.proofs.combo.Goals as goal
 
-pub loop-f-init : goal.loop-f-init
-loop-f-init c = search (rules, choosing)
-
-pub offset_bounds-lens-f : goal.offset_bounds-lens-f
-offset_bounds-lens-f c = search (rules, choosing)
-
-pub bounds-lens-f : goal.bounds-lens-f
-bounds-lens-f c = search (rules, choosing)
-
 pub nonzero_div-c : goal.nonzero_div-c
 nonzero_div-c c = search (rules, choosing)
 
@@ -26,26 +17,11 @@ offset_bounds-flat-base c = search (rules, choosing)
 pub bounds-flat-base : goal.bounds-flat-base
 bounds-flat-base c = search (rules, choosing)
 
-pub wide-requires : goal.wide-requires
-wide-requires c = search (rules, choosing)
-
-pub offset_bounds-v-f : goal.offset_bounds-v-f
-offset_bounds-v-f c = search (rules, choosing)
-
-pub bounds-v-f : goal.bounds-v-f
-bounds-v-f c = search (rules, choosing)
-
 pub nonzero_rem-rest : goal.nonzero_rem-rest
 nonzero_rem-rest c = search (rules, choosing)
 
 pub overflow_add-base-in-loop-f : goal.overflow_add-base-in-loop-f
 overflow_add-base-in-loop-f c = search (rules, choosing)
-
-pub overflow_add-f : goal.overflow_add-f
-overflow_add-f c = search (rules, choosing)
-
-pub loop-f-smaller : goal.loop-f-smaller
-loop-f-smaller c = search (rules, choosing)
 
 pub loop-f-preserved : goal.loop-f-preserved
 loop-f-preserved c = search (rules, choosing)

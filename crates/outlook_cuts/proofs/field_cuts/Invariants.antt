@@ -4,6 +4,3 @@ use Rattle.outlook_cuts.proofs.field_cuts.Given as goal
 
 abbrev pub invariant-loop-i : goal.invariant-loop-i
 invariant-loop-i l = Gathering l.words l.top l.f l.initial.out l.out l.n l.i
-
-abbrev pub decreases-loop-i : goal.decreases-loop-i
-decreases-loop-i l = l.i

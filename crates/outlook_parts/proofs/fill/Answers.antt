@@ -41,12 +41,6 @@ returns-then-p-gt-PARTS c = search (rules, filling)
 pub overflow_add-total : goal.overflow_add-total
 overflow_add-total c = search (rules, filling)
 
-pub overflow_add-f : goal.overflow_add-f
-overflow_add-f c = search (rules, filling)
-
-pub loop-f-smaller : goal.loop-f-smaller
-loop-f-smaller c = search (rules, filling)
-
 pub loop-f-preserved : goal.loop-f-preserved
 loop-f-preserved c = search (rules, filling)
 

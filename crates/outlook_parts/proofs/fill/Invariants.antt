@@ -1,12 +1,7 @@
 -- `outlook_parts::fill` goes over the fields. The loop: the lists so far stand in the space, and with what is still to be tried they give the whole.
-use Prim.Native.Nat.{◌-◌}
 use lib.ListN.{take}
-use Rattle.meaning.specs.Limits.{field_limit}
 use Rattle.outlook_parts.proofs.Laws.{Filling}
 use Rattle.outlook_parts.proofs.fill.Given as goal
 
 abbrev pub invariant-loop-f : goal.invariant-loop-f
 invariant-loop-f l = Filling (take l.top l.words) l.fields l.values l.initial.flat l.flat l.initial.lens l.lens l.total l.p l.f
-
-abbrev pub decreases-loop-f : goal.decreases-loop-f
-decreases-loop-f l = field_limit - l.f

@@ -1,4 +1,3 @@
--- `sheet_read::read_sheet` answers what the meaning reads: LONG, then what stands above the rules, then the rules; the first fault decides.
 use borrow.Author.Rules.{rules}
 use Rattle.sheet_read.proofs.Whole.{reading}
 use Rattle.sheet_read.proofs.read_sheet.Goals as goal
@@ -6,8 +5,8 @@ use Rattle.sheet_read.proofs.read_sheet.Goals as goal
 pub returns-then-s-gt-SHEET_BYTES : goal.returns-then-s-gt-SHEET_BYTES
 returns-then-s-gt-SHEET_BYTES c = search (rules, reading)
 
-pub returns-then-h-ne0 : goal.returns-then-h-ne0
-returns-then-h-ne0 c = search (rules, reading)
+pub returns-in_err-above : goal.returns-in_err-above
+returns-in_err-above c = search (rules, reading)
 
 pub read_below-requires : goal.read_below-requires
 read_below-requires c = search (rules, reading)

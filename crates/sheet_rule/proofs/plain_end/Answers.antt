@@ -1,13 +1,8 @@
 -- A line without a condition has a trigger, and ends there.
 use borrow.Author.Rules.{rules}
+use Rattle.sheet_trigger.proofs.Pieces.{handed}
 use Rattle.sheet_rule.proofs.Endings.{plainly}
 use Rattle.sheet_rule.proofs.plain_end.Goals as goal
 
-pub returns-then-not-on : goal.returns-then-not-on
-returns-then-not-on c = search (rules, plainly)
-
-pub returns-then-not-starts : goal.returns-then-not-starts
-returns-then-not-starts c = search (rules, plainly)
-
-pub returns : goal.returns
-returns c = search (rules, plainly)
+pub returns-in_err-bytes : goal.returns-in_err-bytes
+returns-in_err-bytes c = let h = c.in_err-bytes.was in handed c.from_residual.ensures λ e q. rw q search (rules, plainly)

@@ -1,39 +1,29 @@
+-- Each turn reads one rule more; a refusal is told with the number of the rules before it.
+use mathlib.Core.Path.{refl}
 use borrow.Author.Rules.{rules}
-use Rattle.sheet_rules.proofs.Scan.{going_start, going_length, going_kept, going_room, rows_next, rows_fits, rows_less, rows_row, rows_over, rows_full, rows_wrong}
+use Rattle.text.proofs.Exits.{left_by}
+use Rattle.sheet_rules.proofs.Exits.{told_err, told_ok}
+use Rattle.sheet_rules.proofs.Scan.{going_room, rows_less, rows_over, rows_full, rows_wrong}
 use Rattle.sheet_rules.proofs.read_rows.Goals as goal
 
-pub scan-init : goal.scan-init
-scan-init c = search going_start
+pub returns-then-line-ge-RULES : goal.returns-then-line-ge-RULES
+returns-then-line-ge-RULES c = search rows_full
 
-pub overflow_add-behind : goal.overflow_add-behind
-overflow_add-behind c = search rows_next
+pub read_rule-requires : goal.read_rule-requires
+read_rule-requires c = search going_room
 
-pub read_rule-r-requires : goal.read_rule-r-requires
-read_rule-r-requires c = search going_room
-
-pub overflow_add-at : goal.overflow_add-at
-overflow_add-at c = search rows_fits
+pub returns-in_err-row : goal.returns-in_err-row
+returns-in_err-row c =
+    let m = c.map_err.ensures in
+    let (e, y, z) = told_err c.read_rule.result c.map_err.result _ m.cases c.in_err-row.was in
+    let p = left_by c.from_residual.ensures refl in
+    search (rules, rows_wrong)
 
 pub scan-smaller : goal.scan-smaller
-scan-smaller c = search rows_less
+scan-smaller c =
+    let m = c.map_err.ensures in
+    let y = told_ok c.read_rule.result c.map_err.result _ m.cases c.in_ok-row.was in
+    search rows_less
 
-pub scan-preserved : goal.scan-preserved
-scan-preserved c = search rows_row
-
-pub shape_of-words-then-not-rule_stands : goal.shape_of-words-then-not-rule_stands
-shape_of-words-then-not-rule_stands c = search going_length
-
-pub returns-then-not-rule_stands : goal.returns-then-not-rule_stands
-returns-then-not-rule_stands c = search rows_over
-
-pub shape_of-words-then-count-ge-RULES : goal.shape_of-words-then-count-ge-RULES
-shape_of-words-then-count-ge-RULES c = search going_length
-
-pub returns-then-count-ge-RULES : goal.returns-then-count-ge-RULES
-returns-then-count-ge-RULES c = search rows_full
-
-pub shape_of-words-in-Refused : goal.shape_of-words-in-Refused
-shape_of-words-in-Refused c = search going_kept
-
-pub returns-in-Refused : goal.returns-in-Refused
-returns-in-Refused c = search (rules, rows_wrong)
+pub returns : goal.returns
+returns c = search rows_over

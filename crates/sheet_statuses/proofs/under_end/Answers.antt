@@ -1,42 +1,14 @@
+-- The stage, and the end of the line.
 use borrow.Author.Rules.{rules}
+use Rattle.text.proofs.Exits.{left_by}
 use Rattle.sheet_statuses.proofs.Ends.{undering}
 use Rattle.sheet_statuses.proofs.under_end.Goals as goal
 
-pub stands-requires : goal.stands-requires
-stands-requires c = search (rules, undering)
+pub returns-in_err-stage : goal.returns-in_err-stage
+returns-in_err-stage c = left_by c.from_residual.ensures (search (rules, undering, c.in_err-stage.was))
 
-pub closed-requires : goal.closed-requires
-closed-requires c = search (rules, undering)
-
-pub returns-then-not-stands : goal.returns-then-not-stands
-returns-then-not-stands c = search (rules, undering)
-
-pub rest-requires : goal.rest-requires
-rest-requires c = search (rules, undering)
-
-pub known_name-p-requires : goal.known_name-p-requires
-known_name-p-requires c = search (rules, undering)
-
-pub enum_known-p : goal.enum_known-p
-enum_known-p c = search (rules, undering)
-
-pub enum_told-1 : goal.enum_told-1
-enum_told-1 c = search (rules, undering)
-
-pub known_fault-requires : goal.known_fault-requires
-known_fault-requires c = search (rules, undering)
-
-pub returns-in_default : goal.returns-in_default
-returns-in_default c = search (rules, undering)
-
-pub overflow_add-i : goal.overflow_add-i
-overflow_add-i c = search (rules, undering)
-
-pub overflow_add-n : goal.overflow_add-n
-overflow_add-n c = search (rules, undering)
-
-pub closed-requires-2 : goal.closed-requires-2
-closed-requires-2 c = search (rules, undering)
+pub returns-in_err-end : goal.returns-in_err-end
+returns-in_err-end c = left_by c.from_residual-in_err-end.ensures (search (rules, undering, c.in_ok-stage.was, c.in_err-end.was))
 
 pub returns : goal.returns
-returns c = search (rules, undering)
+returns c = search (rules, undering, c.in_ok-stage.was, c.in_ok-end.was)

@@ -1,10 +1,6 @@
 -- Code after code is marked. The invariant: marking what is left from here on is marking all from the start.
-use Prim.Native.Nat.{◌-◌}
 use Rattle.step_moment.proofs.Laws.{Marking}
 use Rattle.step_moment.proofs.mark_parents.Given as goal
 
 abbrev pub invariant-loop-x : goal.invariant-loop-x
 invariant-loop-x l = Marking l.under l.stages l.parents l.x
-
-abbrev pub decreases-loop-x : goal.decreases-loop-x
-decreases-loop-x l = l.stages - l.x

@@ -1,22 +1,19 @@
--- `set_mark` sets the mark of a node's status, and changes nothing behind the last: a return each.
-use borrow.Author.Rules.{rules}
-use Rattle.step_run.proofs.Laws.{changing}
+-- `set_mark` sets the mark of a node's status, and changes nothing behind the last.
+use mathlib.Core.Path.{sym, ap, ◌∙◌}
+use mathlib.Core.Bool.{cond}
+use native.Mathlib.Omega.{arith}
+use borrow.Author.Tests.{eq-eqb, ne_eqb}
+use Rattle.step_run.proofs.Laws.{mark_in, mark_out}
 use Rattle.step_run.proofs.set_mark.Goals as goal
+use Rattle.step_run.proofs.set_mark.Goals.{then-k-eq0, else-k-eq0}
 
-pub of_byte-x-requires : goal.of_byte-x-requires
-of_byte-x-requires c = search (rules, changing)
+pub returns-after-k-eq0 : goal.returns-after-k-eq0
+returns-after-k-eq0 c =
+    mark_in _ _ _ _ c.from-x.ensures
+    (elim c.if-k-eq0.branch [
+      | then-k-eq0 w ↦ w.after-is ∙ ap (λ b. cond b 2 0) (sym (eq-eqb _ 0 w.if-k-eq0.true))
+      | else-k-eq0 w ↦ w.after-is ∙ ap (λ b. cond b 2 0) (sym (ne_eqb _ 0 w.if-k-eq0.false))
+    ])
 
-pub returns-then-x-ge-STATUSES : goal.returns-then-x-ge-STATUSES
-returns-then-x-ge-STATUSES c = search (rules, changing)
-
-pub bounds-set-x : goal.bounds-set-x
-bounds-set-x c = search (rules, changing)
-
-pub returns-then-k-eq0 : goal.returns-then-k-eq0
-returns-then-k-eq0 c = search (rules, changing)
-
-pub bounds-set-x-2 : goal.bounds-set-x-2
-bounds-set-x-2 c = search (rules, changing)
-
-pub returns : goal.returns
-returns c = search (rules, changing)
+pub returns-else-x-lt-STATUSES : goal.returns-else-x-lt-STATUSES
+returns-else-x-lt-STATUSES c = mark_out _ _ _ c.from-x.ensures (omega arith)

@@ -2,9 +2,6 @@ use borrow.Author.Rules.{rules}
 use Rattle.why_case.proofs.Laws.{seeking}
 use Rattle.why_case.proofs.first_held.Goals as goal
 
-pub lower-end-requires : goal.lower-end-requires
-lower-end-requires c = search (rules, seeking)
-
 pub loop-j-init : goal.loop-j-init
 loop-j-init c = search (rules, seeking)
 
@@ -22,12 +19,6 @@ bounds-rows-j-then-rows-j-eq1 c = search (rules, seeking)
 
 pub returns-then-rows-j-eq1 : goal.returns-then-rows-j-eq1
 returns-then-rows-j-eq1 c = search (rules, seeking)
-
-pub overflow_add-j : goal.overflow_add-j
-overflow_add-j c = search (rules, seeking)
-
-pub loop-j-smaller : goal.loop-j-smaller
-loop-j-smaller c = search (rules, seeking)
 
 pub loop-j-preserved : goal.loop-j-preserved
 loop-j-preserved c = search (rules, seeking)

@@ -3,9 +3,6 @@ use borrow.Author.Rules.{rules}
 use Rattle.why_case.proofs.Laws.{sheet_list, gathering}
 use Rattle.why_case.proofs.list_all.Goals as goal
 
-pub run_step-step-requires : goal.run_step-step-requires
-run_step-step-requires c = search (rules, gathering)
-
 pub tell_rows-rows-requires : goal.tell_rows-rows-requires
 tell_rows-rows-requires c = search (rules, gathering)
 

@@ -11,12 +11,6 @@ status_at-status-requires c = search (rules, listing)
 pub put_status-n-requires : goal.put_status-n-requires
 put_status-n-requires c = search (rules, listing)
 
-pub overflow_add-x : goal.overflow_add-x
-overflow_add-x c = search (rules, listing)
-
-pub loop-x-smaller : goal.loop-x-smaller
-loop-x-smaller c = search (rules, listing)
-
 pub loop-x-preserved : goal.loop-x-preserved
 loop-x-preserved c = search (rules, listing)
 

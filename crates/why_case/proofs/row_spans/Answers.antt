@@ -2,17 +2,11 @@ use borrow.Author.Rules.{rules}
 use Rattle.why_case.proofs.Laws.{spanning}
 use Rattle.why_case.proofs.row_spans.Goals as goal
 
-pub lower-nodes-requires : goal.lower-nodes-requires
-lower-nodes-requires c = search (rules, spanning)
-
 pub loop-i-init : goal.loop-i-init
 loop-i-init c = search (rules, spanning)
 
 pub bounds-plan-i : goal.bounds-plan-i
 bounds-plan-i c = search (rules, spanning)
-
-pub of_byte-k-requires : goal.of_byte-k-requires
-of_byte-k-requires c = search (rules, spanning)
 
 pub bounds-from-k : goal.bounds-from-k
 bounds-from-k c = search (rules, spanning)
@@ -22,12 +16,6 @@ bounds-plan-i-in-loop-i c = search (rules, spanning)
 
 pub bounds-to-k : goal.bounds-to-k
 bounds-to-k c = search (rules, spanning)
-
-pub overflow_add-i : goal.overflow_add-i
-overflow_add-i c = search (rules, spanning)
-
-pub loop-i-smaller : goal.loop-i-smaller
-loop-i-smaller c = search (rules, spanning)
 
 pub loop-i-preserved : goal.loop-i-preserved
 loop-i-preserved c = search (rules, spanning)

@@ -20,12 +20,6 @@ offset_bounds-rows-j c = search (rules, telling)
 pub bounds-rows-j : goal.bounds-rows-j
 bounds-rows-j c = search (rules, telling)
 
-pub overflow_add-j : goal.overflow_add-j
-overflow_add-j c = search (rules, telling)
-
-pub loop-j-smaller : goal.loop-j-smaller
-loop-j-smaller c = search (rules, telling)
-
 pub loop-j-preserved : goal.loop-j-preserved
 loop-j-preserved c = search (rules, telling)
 

@@ -1,0 +1,29 @@
+-- The faults by the numbers of the document.
+use Rattle.std.specs.Prelude.{ℕ, cond, eqb}
+use Rattle.meaning.specs.Refusal.{LONG, LINE, NAME, NUMBER, COND, FULL, CYCLE, ORPHAN, ROOM, MANY}
+use Rattle.reply.specs.declared.Fault.{Fault}
+use Rattle.reply.specs.declared.Fault.TheVariants as F
+use Rattle.reply.specs.declared.Wrong.{Wrong}
+
+-- a fault's number
+abbrev pub number_of : Fault → ℕ
+number_of F.Long = LONG
+number_of F.Line = LINE
+number_of F.Name = NAME
+number_of F.Number = NUMBER
+number_of F.Cond = COND
+number_of F.Full = FULL
+number_of F.Cycle = CYCLE
+number_of F.Orphan = ORPHAN
+number_of F.Room = ROOM
+number_of F.Many = MANY
+
+-- the fault with a number; of another number nothing is asked
+abbrev pub fault_of : ℕ → Fault
+fault_of n =
+    cond (eqb n LONG) F.Long (cond (eqb n LINE) F.Line (cond (eqb n NAME) F.Name (cond (eqb n NUMBER) F.Number (cond (eqb n COND) F.Cond
+    (cond (eqb n FULL) F.Full (cond (eqb n CYCLE) F.Cycle (cond (eqb n ORPHAN) F.Orphan (cond (eqb n ROOM) F.Room F.Many))))))))
+
+-- the refusal of a paper: its fault by the number, and its line
+abbrev pub wrong_of : ℕ → ℕ → Wrong
+wrong_of n l = record { fault = fault_of n; line = l }

@@ -1,0 +1,2 @@
+-- What the code answers for the lines of the model and of a field:
+pub mod Answers
