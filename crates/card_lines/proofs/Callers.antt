@@ -7,20 +7,21 @@ use lib.ListN.{length, drop, length-append}
 use Rattle.std.specs.Prelude.{Result, Ok, Err}
 use Rattle.meaning.specs.Text.{text}
 use Rattle.meaning.specs.Refusal.{LINE}
-use Rattle.meaning.specs.Reading.{Got, got, Reader, after, due}
+use Rattle.meaning.specs.Reading.{Got, got, wrong, Reader, after, due}
 use Rattle.meaning.specs.Name.{Name, due_name}
 use Rattle.meaning.specs.Number.{Entry}
 use Rattle.meaning.specs.Card.{keyed, field_entry, status_mark, ended, case_line, spaced}
-use Rattle.theory.specs.Reading.Built.{line_fault, due_built, due_name_built}
+use Rattle.theory.specs.Reading.Built.{Built, line_fault, due_built, due_name_built}
 use Rattle.theory.specs.Reading.BuiltPapers.{entry_line_built, mark_line_built}
 use Rattle.theory.specs.Reading.Spelling.{due_spells, due_name_spells}
 use Rattle.theory.specs.Writing.CardText.{field_spells}
 use Rattle.theory.specs.Reading.Answered.{Ends, here, inline_ends, spelled_ends, ends_weaker, ends_after, ended_ends, Left}
 use Rattle.theory.specs.Reading.Piece.{Took, Refuses, piece_took, piece_refuses, Off, piece_on, piece_off}
 use Rattle.reply.specs.declared.Fault.{Fault}
-use Rattle.reply.specs.Faults.{fault_of}
+use Rattle.reply.specs.Faults.{number_of, fault_of}
 use Rattle.text.specs.declared.Taken.{Taken}
 use Rattle.text.specs.Pieces.{as_length}
+use Rattle.text.proofs.Callers.{refused_number}
 use Rattle.marks.specs.Codes.{mark_code, coded}
 use Rattle.card_lines.specs.declared.Shown.{Shown}
 use Rattle.card_lines.specs.Answers.{as_value, as_mark}
@@ -102,3 +103,7 @@ module _ {to : ℕ → ℕ} (b o : ℕ) {r : Reader Entry} {t : List ℕ} (ends 
 
   pub value_refuses : (e : Fault) → p ≡ Err e → Refuses fault_of r t e
   value_refuses = piece_refuses (told b) fault_of ends p is
+
+  -- of a reader that is built from the pieces: by the fault's number, on every line
+  pub value_kept : Built r → (e : Fault) → p ≡ Err e → (l : ℕ) → r l t ≡ wrong (number_of e) l
+  value_kept built e z = refused_number built (value_refuses e z)

@@ -11,6 +11,11 @@ use Rattle.text.specs.Pieces.{as_taken}
 use Rattle.marks.specs.Codes.{mark_code, coded}
 use Rattle.card_lines.specs.declared.Shown.{Shown}
 
+-- the number of a refusal, by what numbers what it is told by
+abbrev pub bytes_fault : {R : Type 0} → (R → ℕ) → Result ℕ R → ℕ
+bytes_fault number (Ok n) = 0
+bytes_fault number (Err e) = number e
+
 -- a value that stands behind so many bytes, and the length of its text
 abbrev pub as_value : ℕ → List ℕ → Got Entry → Result Shown Fault
 as_value p = as_piece (λ e n. record { value = coded e.value; start = p; length = length e.shown }) fault_of

@@ -7,10 +7,10 @@ ghost use Rattle.meaning.specs.Reading.{one_of, line_end};
 ghost use Rattle.meaning.specs.Card.{keyed, field_entry, status_mark, marks, ended, case_line, spaced};
 ghost use Rattle.text.specs.Pieces.{as_length};
 ghost use Rattle.name.specs.Names.{name_of};
-ghost use Rattle.card_lines.specs.Answers.{as_value, as_mark, on_line};
+ghost use Rattle.card_lines.specs.Answers.{bytes_fault, as_value, as_mark, on_line};
 
 use name::Name;
-use reply::{Fault, Wrong};
+use reply::{Fault, Told, Wrong};
 use text::Taken;
 
 // What stands behind `NAME=`: the value, behind how many bytes its text stands and how long that is.
@@ -19,6 +19,16 @@ pub struct Shown {
     pub value: u64,
     pub start: usize,
     pub length: usize,
+}
+
+// The number of a refused piece; 0 where it was read.
+pub fn bytes_fault<R: Told>(p: Result<usize, R>) -> u8
+    ensures { result ≡ bytes_fault R.number p }
+{
+    match p {
+        Ok(_bytes) => 0,
+        Err(refusal) => refusal.number_told(),
+    }
 }
 
 // What a piece of the line `line` says: its fault is told with that line.
@@ -121,4 +131,17 @@ pub fn case_line(s: &[u8], model: Name) -> Result<usize, Fault>
     let k = name::due_name(text::rest(s, n), model)?;
     let e = line_end(text::rest(s, n + k))?;
     Ok(n + k + e)
+}
+
+// Readers hand a fault on as it is. Its number is for callers outside, so that none but these calls what tells it.
+#[cfg(test)]
+mod tests {
+    use super::*;
+
+    #[test]
+    fn numbers_of_pieces(rt: HostRuntime) {
+        assert_eq!(rt; bytes_fault(line_end(b"\n")), 0);
+        assert_eq!(rt; bytes_fault(line_end(b"=")), 2);
+        assert_eq!(rt; bytes_fault(case_line(b"case=kin\n", name::no_name())), 3);
+    }
 }

@@ -2,12 +2,9 @@
 use Prim.Native.Nat.{ℕ}
 use mathlib.Core.Path.{◌≡◌, sym, ◌∙◌, ap}
 use mathlib.Core.List.{List}
-use native.Mathlib.Omega.{arith}
 use Rattle.std.specs.Prelude.{Result, Ok, Err}
-use Rattle.theory.specs.Requests.Numbers.{card_tells, event_tells}
 use Rattle.reply.specs.declared.Wrong.{Wrong}
 use Rattle.reply.specs.Faults.{number_of}
-use Rattle.reply.proofs.Faults.{number_again}
 use Rattle.meaning.specs.Sheet as M
 use Rattle.meaning.specs.Card.{read_card, read_event}
 use Rattle.meaning.specs.Doors as D
@@ -63,10 +60,8 @@ module _ (s c e : List ℕ) (x : Accepted) (sheet_told_lem : x ≡ as_accepted (
       pub case_card : (w : Wrong) → g ≡ Err w → (k : ℕ) → k ≡ number_of w.fault → (q : Case) → q ≡ refused_case k 2 w.line → q ≡ as_case (read_case s c e)
       unfolding read_case read_told
       case_card w z k m q f =
-          let (n, y, told) = card_refused hd c g card_is w z in
-          let some = (card_tells hd c).told n 2 w.line told in
-          let number : k ≡ n = m ∙ ap (λ w. number_of w.fault) y ∙ number_again n some.0 (omega (arith, some.1)) in
-          f ∙ ap (λ k. refused_case k 2 w.line) number ∙ sym (rw ((accept_read s x sheet_told_lem zero).same, told))
+          let told = card_refused hd c g card_is w z in
+          f ∙ ap (λ k. refused_case k 2 w.line) m ∙ sym (rw ((accept_read s x sheet_told_lem zero).same, told))
 
       module _ (v : Card) (read : g ≡ Ok v) (h : Result Happening Wrong)
           (event_told : h ≡ as_event_read (heads_of x.heads) (read_event (heads_of x.heads) e)) where
@@ -76,10 +71,8 @@ module _ (s c e : List ℕ) (x : Accepted) (sheet_told_lem : x ≡ as_accepted (
         pub case_event : (w : Wrong) → h ≡ Err w → (k : ℕ) → k ≡ number_of w.fault → (q : Case) → q ≡ refused_case k 3 w.line → q ≡ as_case (read_case s c e)
         unfolding read_case read_told
         case_event w z k m q f =
-            let (n, y, told) = event_refused hd e h event_is w z in
-            let some = (event_tells hd e).told n 3 w.line told in
-            let number : k ≡ n = m ∙ ap (λ w. number_of w.fault) y ∙ number_again n some.0 (omega (arith, some.1)) in
-            f ∙ ap (λ k. refused_case k 3 w.line) number
+            let told = event_refused hd e h event_is w z in
+            f ∙ ap (λ k. refused_case k 3 w.line) m
             ∙ sym (rw ((accept_read s x sheet_told_lem zero).same, (card_taken hd c g card_is v read).1, told))
 
         pub case_all : (u : Happening) → h ≡ Ok u

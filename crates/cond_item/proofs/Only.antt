@@ -20,11 +20,12 @@ join_word_only κs a r q s t h g = only h.1 g.1
 pub join_word_words_only : Settles JoinWord.Learnt (λ κs r s. s.0.now)
 join_word_words_only κs a r q s t h g = only h.0 g.0
 
-pub behind_only : Determines Behind.Learnt
-behind_only κs a r q s t = only
+-- whatever a refusal is told by
+pub behind_only : (E : _) (L : _) → Determines (Behind.Learnt E L)
+behind_only E L κs a r q s t = only
 
-pub closed_only : Determines Closed.Learnt
-closed_only κs a r q s t = only
+pub closed_only : (R : _) (L : _) (C : _) (F : _) (E : _) (G : _) (D : _) → Determines (Closed.Learnt R L C F E G D)
+closed_only R L C F E G D κs a r q s t = only
 
 pub clear_words_only : Settles Clear.Learnt (λ κs r s. s.0.now)
 clear_words_only κs a r q s t = only

@@ -12,7 +12,7 @@ use mir.Syntax.{w64}
 use mir.Val.{Fits}
 use Rattle.std.specs.Prelude.{Result, Ok, Err}
 use Rattle.meaning.specs.Text.{text}
-use Rattle.meaning.specs.Refusal.{COND}
+use Rattle.meaning.specs.Refusal.{LINE, COND}
 use Rattle.meaning.specs.Reading.{Got, got, wrong, due}
 use Rattle.meaning.specs.Condition.{Leaf}
 use Rattle.meaning.specs.ReadCondition.{read_leaf}
@@ -23,9 +23,9 @@ use Rattle.theory.specs.Reading.Told.{Any, spelled_took}
 use Rattle.theory.specs.Reading.Answered.{here}
 use Rattle.theory.specs.Reading.Piece.{Took, piece_took, piece_refuses}
 use Rattle.reply.specs.declared.Fault.{Fault}
-use Rattle.reply.specs.Faults.{fault_of}
 use Rattle.text.specs.declared.Taken.{Taken}
-use Rattle.text.specs.Pieces.{as_length}
+use Rattle.text.specs.Pieces.{as_due, as_length_by}
+use Rattle.text.proofs.Laws.{due_numbered}
 use Rattle.cond_value.specs.Flat.{bit, join}
 use Rattle.cond_leaf.specs.Answers.{as_leaf}
 use Rattle.cond_leaf.proofs.Callers.{leaf_got}
@@ -49,8 +49,8 @@ module _ (was : List ℕ) (top : ℕ) (j o : Bool) where
 pub ruleset joining = (join_stored, join_next, join_none, join_same)
 
 -- so many bytes further back
-module _ (s : List ℕ) (n : ℕ) (r : Result Place Fault) where
-  pub behind_refused : (e : Fault) → r ≡ Err e → Err e ≡ further n r
+module _ {E : Type 0} (s : List ℕ) (n : ℕ) (r : Result Place E) where
+  pub behind_refused : (e : E) → r ≡ Err e → Err e ≡ further n r
   behind_refused e z = rw z
 
   pub behind_read : (q : Place) → r ≡ Ok q → (b : ℕ) → b ≡ n + q.bytes → Ok (record { bytes = b; top = q.top; leaves = q.leaves }) ≡ further n r
@@ -61,29 +61,33 @@ module _ (s : List ℕ) (n : ℕ) (r : Result Place Fault) where
 
 pub ruleset shifting = (behind_refused, behind_read, behind_fits)
 
--- the end of a group
-module _ (s : List ℕ) (r : Result Place Fault) where
-  pub group_refused : (e : Fault) → r ≡ Err e → Err e ≡ closed_by s r
+-- the end of a group, whatever a refusal is told by
+module _ {E : Type 0} (of : ℕ → E) (s : List ℕ) (r : Result Place E) where
+  pub group_refused : (e : E) → r ≡ Err e → Err e ≡ closed_by of s r
   group_refused e z = rw z
 
   module _ (q : Place) (e : r ≡ Ok q) where
     pub group_fits : Within s 1 r → length s < 2 ^ 64 → (b : ℕ) → b ≡ 1 + q.bytes → Fits w64 b
     group_fits w l b z = let h : 1 + q.bytes ≤ length s = rw e at w in record { fits = omega arith }
 
-    module _ (end : ℕ) (ee : end ≡ 1 + q.bytes) (v : List ℕ) (ev : v ≡ drop end s) (d : Result ℕ Fault) (is : d ≡ as_length v (due COND (text ")") 0 v)) where
-      pub group_open : (f : Fault) → d ≡ Err f → Err f ≡ closed_by s r
+    module _ (end : ℕ) (ee : end ≡ 1 + q.bytes) (v : List ℕ) (ev : v ≡ drop end s) (ended other : E) (line : ended ≡ of LINE) (cond : other ≡ of COND)
+        (d : Result ℕ E) (is : d ≡ as_due ended other v (due 0 (text ")") 0 v)) where
+      told_by : d ≡ as_length_by of v (due COND (text ")") 0 v)
+      told_by = rw (line, cond) at is ∙ due_numbered of COND v (text ")")
+
+      pub group_open : (f : E) → d ≡ Err f → Err f ≡ closed_by of s r
       group_open f told =
-          let h = piece_refuses (λ u n. n) fault_of (due_ends COND (text ")") v) d is f told in
-          rw (e, ← ee, ← ev, h.reads 0) (ap (λ (x : Fault). Err x) h.is)
+          let h = piece_refuses (λ u n. n) of (due_ends COND (text ")") v) d told_by f told in
+          rw (e, ← ee, ← ev, h.reads 0) (ap (λ (x : E). Err x) h.is)
 
       module _ (m : ℕ) (told : d ≡ Ok m) where
         close : Took (λ u n. n) here (λ u n. Any u) (due COND (text ")")) v m
-        close = piece_took (λ u n. n) fault_of (due_ends COND (text ")") v) d is m told
+        close = piece_took (λ u n. n) of (due_ends COND (text ")") v) d told_by m told
 
         one : m ≡ 1
         one = close.same ∙ spelled_took (due_spells COND (text ")")) 0 v tt 0 close.bytes close.within (close.reads 0)
 
-        pub group_good : (b : ℕ) → b ≡ end + m → Ok (record { bytes = b; top = q.top; leaves = q.leaves }) ≡ closed_by s r
+        pub group_good : (b : ℕ) → b ≡ end + m → Ok (record { bytes = b; top = q.top; leaves = q.leaves }) ≡ closed_by of s r
         group_good b z =
             let g : due COND (text ")") 0 (drop (1 + q.bytes) s) ≡ got tt 0 (drop close.bytes v) = rw (← ee, ← ev) (close.reads 0) in
             sym (rw (e, g, z, ee, one))

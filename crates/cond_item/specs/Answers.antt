@@ -52,20 +52,24 @@ pub record Ready (statuses fields : List Name) (was : List ℕ) (top leaves : �
   pub few_words : top ≤ 2 * leaves
   pub room : word_room ≤ length was
 
--- what was read behind the first n bytes of s: it lies in s, and it is told from the start of s
-abbrev pub Within : List ℕ → ℕ → Result Place Fault → Type 0
+-- what was read behind the first n bytes of s, or a refusal, whatever it is told by: it lies in s, and it is told from the start of s
+abbrev pub Within : {E : Type 0} → List ℕ → ℕ → Result Place E → Type 0
 Within s n (Ok p) = n + p.bytes ≤ length s
 Within s n (Err e) = Unit {0}
 
-abbrev pub further : ℕ → Result Place Fault → Result Place Fault
+abbrev pub further : {E : Type 0} → ℕ → Result Place E → Result Place E
 further n (Ok p) = Ok (record { bytes = n + p.bytes; top = p.top; leaves = p.leaves })
 further n (Err e) = Err e
 
--- a group whose condition was read behind the first byte of s, and its closing parenthesis
-abbrev pub closing : Place → Got (Unit {0}) → Result Place Fault
-closing p (got u l t) = Ok (record { bytes = 1 + p.bytes + 1; top = p.top; leaves = p.leaves })
-closing p (wrong n l) = Err (fault_of n)
+-- a group whose condition was read behind the first byte of s, and its closing parenthesis; `of` is what a refusal with a number is told by
+abbrev pub closing_by : {E : Type 0} → (ℕ → E) → Place → Got (Unit {0}) → Result Place E
+closing_by of p (got u l t) = Ok (record { bytes = 1 + p.bytes + 1; top = p.top; leaves = p.leaves })
+closing_by of p (wrong n l) = Err (of n)
 
-abbrev pub closed_by : List ℕ → Result Place Fault → Result Place Fault
-closed_by s (Ok p) = closing p (due COND (text ")") 0 (drop (1 + p.bytes) s))
-closed_by s (Err e) = Err e
+abbrev pub closed_by : {E : Type 0} → (ℕ → E) → List ℕ → Result Place E → Result Place E
+closed_by of s (Ok p) = closing_by of p (due COND (text ")") 0 (drop (1 + p.bytes) s))
+closed_by of s (Err e) = Err e
+
+-- the same, with the fault
+abbrev pub closing : Place → Got (Unit {0}) → Result Place Fault
+closing = closing_by fault_of

@@ -8,7 +8,7 @@ ghost use Rattle.name.specs.Names.{names_in};
 ghost use Rattle.cond_value.specs.Flat.{bit, join};
 ghost use Rattle.cond_item.specs.Answers.{as_item, item_space, cleared, Ready, Within, further, closed_by};
 
-use reply::Fault;
+use reply::{Fault, Told};
 
 // How far a condition was read: its bytes, and the words and leaves that there are behind it.
 #[derive(Clone, Copy)]
@@ -58,9 +58,9 @@ pub fn join_word(words: &mut [u64], top: usize, joined: bool, or: bool) -> usize
     }
 }
 
-// What was read behind the first `n` bytes of `s`, told from the start of `s`.
+// What was read behind the first `n` bytes of `s`, told from the start of `s`. A refusal is handed on, whatever it is told by.
 #[tactic(auto, using(crate::proofs::Steps::shifting))]
-pub fn behind(s: &[u8], n: usize, r: Result<Place, Fault>) -> Result<Place, Fault>
+pub fn behind<E>(s: &[u8], n: usize, r: Result<Place, E>) -> Result<Place, E>
     requires { Within s.now n r }
     ensures { result ≡ further n r }
 {
@@ -73,13 +73,14 @@ pub fn behind(s: &[u8], n: usize, r: Result<Place, Fault>) -> Result<Place, Faul
 
 // The group whose parenthesis is the first byte of `s`, where its condition was read behind that.
 #[tactic(auto, using(crate::proofs::Steps::closes))]
-pub fn closed(s: &[u8], r: Result<Place, Fault>) -> Result<Place, Fault>
+pub fn closed<R: Told + Copy>(s: &[u8], r: Result<Place, R>) -> Result<Place, R>
     requires { Within s.now 1 r }
-    ensures { result ≡ closed_by s.now r }
+    ensures { result ≡ closed_by R.with_number s.now r }
 {
     let q = r?;
     let end = 1 + q.bytes;
-    let close = text::due_text(text::rest(s, end), b")", Fault::Cond)?;
+    let (ended, other) = (R::from_fault(Fault::Line), R::from_fault(Fault::Cond));
+    let close = text::due_or(text::rest(s, end), b")", ended, other)?;
     Ok(Place {
         bytes: end + close,
         ..q

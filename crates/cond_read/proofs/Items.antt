@@ -136,7 +136,7 @@ module _ (st fd : List Name) (d : ℕ) (neg : Bool) (s : List ℕ) (top leaves :
 
         -- a group
         pub item_group : (d ≡ 0 → ⊥) → (v : List ℕ) → v ≡ drop 1 s → (r : Result Place Fault) (is : List ℕ)
-            → Gives (conditions st fd neg (d - 1)) v top leaves r was is → (u : Result Place Fault) → u ≡ closed_by s r
+            → Gives (conditions st fd neg (d - 1)) v top leaves r was is → (u : Result Place Fault) → u ≡ closed_by fault_of s r
             → Gives (items st fd neg d) s top leaves u was is
         unfolding items conditions words_i leaves_i
         item_group z v ev r is g u eu = rw eu (go r refl)
@@ -161,7 +161,7 @@ module _ (st fd : List Name) (d : ℕ) (neg : Bool) (s : List ℕ) (top leaves :
                 (reads ∙ rw (f.reads 0, x, e 0, o, drop-drop 1 (1 + q.bytes) s)) (record { bytes = 1 + q.bytes + 1; top = q.top; leaves = q.leaves }) refl
                 f.words f.counts f.space)
 
-            go : (x : Result Place Fault) → r ≡ x → Gives (items st fd neg d) s top leaves (closed_by s x) was is
+            go : (x : Result Place Fault) → r ≡ x → Gives (items st fd neg d) s top leaves (closed_by fault_of s x) was is
             go (Err c) e =
                 let f = given_refused (conditions st fd neg (d - 1)) v top leaves was is (conditions_tell st fd neg (d - 1)) r g c e in
                 gives_refused (items st fd neg d) s top leaves was is f.0.number c f.0.is (reads ∙ rw (f.0.reads 0)) f.1

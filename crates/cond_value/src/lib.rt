@@ -44,7 +44,11 @@ fn raw(w: u64, values: &Values, marks: &Marks) -> u64
     if v == 0 {
         return UNKNOWN;
     }
-    known(if kind < 6 { v < w / 256 } else { v == w / 256 })
+    if kind < 6 {
+        known(v < w / 256)
+    } else {
+        known(v == w / 256)
+    }
 }
 
 // Negated where the word is odd: unknown stays unknown.

@@ -280,11 +280,10 @@ module _ (words : List ℕ) (rows : List Test) (statuses : ℕ) (is : List ℕ) 
 
 -- a test alone in a graph
 pub gives_is : (words : List ℕ) (t : Test) (p k : ℕ) (is : List ℕ) → p < node_room → k < node_room
-    → Added (tests_into words (t ∷ [])) (replicate node_room 0) is → has (get_or is k 0) p ≡ eqb t.node k && is_in p (test_nodes words t)
-unfolding tests_into rows_for any
+    → Added (toward t.node (test_nodes words t)) (replicate node_room 0) is → has (get_or is k 0) p ≡ eqb t.node k && is_in p (test_nodes words t)
+unfolding toward any
 gives_is words t p k is g h a =
-    a.edges p k g h ∙ ap (λ b. b || is_in p (tests_into words (t ∷ []) k)) (edges_none node_room p k)
-    ∙ ap (is_in p) (keep_one (test_nodes words) (λ t. eqb t.node k) t) ∙ go (eqb t.node k)
+    a.edges p k g h ∙ ap (λ b. b || is_in p (toward t.node (test_nodes words t) k)) (edges_none node_room p k) ∙ go (eqb t.node k)
   where
     go : (b : Bool) → is_in p (cond b (test_nodes words t) []) ≡ b && is_in p (test_nodes words t)
     go true = refl

@@ -154,7 +154,8 @@ fn gives_edge(words: &[u64], t: Test, p: usize, k: usize) -> bool
     requires { (p < node_room) × (k < node_room) }
     ensures { result ≡ eqb t.node k && is_in p (test_nodes words.now t) }
 {
-    let masks = masks_of(&[t], words);
+    let mut masks = [0u64; limits::NODES];
+    add_test(&mut masks, words, t);
     graph_order::has(masks[k], p)
 }
 
@@ -167,7 +168,7 @@ pub fn edge_line(tests: Tests, words: &[u64], p: usize, k: usize) -> usize
     let rows = tests.listed();
     for t in rows {
         if gives_edge(words, *t, p, k) {
-            return usize::from(t.line);
+            return places::of_pair(t.line);
         }
     }
     0

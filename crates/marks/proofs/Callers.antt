@@ -3,6 +3,7 @@ use Prim.Native.Nat.{ℕ}
 use mathlib.Core.Path.{◌≡◌, refl, ap, ◌∙◌}
 use mathlib.Core.Bool.{Bool, true, false}
 use mathlib.Core.List.{List, [], ◌∷◌, map}
+use lib.Dec.{eqb}
 use lib.ListN.{get_or, get_or-map}
 use Rattle.meaning.specs.Limits.{field_limit, status_limit}
 use Rattle.meaning.specs.Kleene.{Kleene, true₃, false₃, unknown, known₃}
@@ -39,6 +40,10 @@ module _ (bs : List Bool) (x : ℕ) where
   -- as a condition reads it
   pub mark_known : status_in (marked bs) x ≡ known₃ (is bs x)
   mark_known = ap mark_of mark_at_lem ∙ code_mark (known₃ (is bs x))
+
+-- one is yes, by the mark that was read
+pub yes_is : (marks : List ℕ) (x m : ℕ) → m ≡ get_or marks x 0 → eqb m 2 ≡ yes_at marks x
+yes_is marks x m e = ap (λ n. eqb n 2) e
 
 -- the statuses are told again
 pub side_again : (bs : List Bool) → side_of (map mark_code bs) ≡ bs

@@ -126,3 +126,7 @@ module _ (p : Result (Taken ℕ) Fault) (ns : List (List ℕ)) (t : List ℕ) (i
 
     pub known_fits : v.bytes ≤ length t
     known_fits = rw at_place.same at_place.within
+
+    -- a name is short
+    pub known_few : v.bytes ≤ name_bytes
+    known_few = rw at_place.same at_place.holds.1

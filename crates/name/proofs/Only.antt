@@ -11,6 +11,8 @@ use Rattle.name.proofs.find.Reads as Find
 use Rattle.name.proofs.known_name.Reads as KnownName
 use Rattle.name.proofs.new_name.Reads as NewName
 use Rattle.name.proofs.due_name.Reads as DueName
+use Rattle.name.proofs.name_fault.Reads as NameFault
+use Rattle.name.proofs.known_fault.Reads as KnownFault
 use Rattle.name.proofs.name_len.Reads as NameLen
 use Rattle.name.proofs.spell.Reads as Spell
 
@@ -48,6 +50,13 @@ new_name_only κs a r q s t = only
 
 pub due_name_only : Determines DueName.Learnt
 due_name_only κs a r q s t = only
+
+-- whatever a refusal is told by
+pub name_fault_only : (R : _) (L : _) (G : _) (D : _) → Determines (NameFault.Learnt R L G D)
+name_fault_only R L G D κs a r q s t = only
+
+pub known_fault_only : (R : _) (L : _) (G : _) (D : _) → Determines (KnownFault.Learnt R L G D)
+known_fault_only R L G D κs a r q s t = only
 
 pub name_len_only : Determines NameLen.Learnt
 name_len_only κs a r q s t h g = only h.0 g.0

@@ -1,5 +1,5 @@
 -- What the code answers for what the meaning reads: one function for each type of answer.
-use Rattle.std.specs.Prelude.{ℕ, suc, Bool, true, false, List, [], ◌∷◌, eqb, Result, Option, Some, None}
+use Rattle.std.specs.Prelude.{ℕ, suc, Bool, true, false, List, [], ◌∷◌, eqb, Result, Ok, Err, Option, Some, None}
 use Rattle.std.proofs.Math.Option.{none, some}
 use Rattle.std.proofs.Math.Option.{Option as Maybe}
 use Rattle.meaning.specs.Reading.{Got}
@@ -17,6 +17,15 @@ as_name = as_taken kept
 -- a place in a table
 abbrev pub as_known : List ℕ → Got ℕ → Result (Taken ℕ) Fault
 as_known = as_taken (λ i. i)
+
+-- the number of a refused name, and of one that is not known, by what numbers what a refusal is told by
+abbrev pub name_fault : {R : Type 0} → (R → ℕ) → Result (Taken Kept) R → ℕ
+name_fault number (Ok v) = 0
+name_fault number (Err e) = number e
+
+abbrev pub known_fault : {R : Type 0} → (R → ℕ) → Result (Taken ℕ) R → ℕ
+known_fault number (Ok v) = 0
+known_fault number (Err e) = number e
 
 -- what was found, as a place
 abbrev pub place_of : Option ℕ → Maybe ℕ

@@ -10,9 +10,9 @@ ghost use Rattle.limits.specs.Sizes.{name_room};
 ghost use Rattle.text.specs.Pieces.{as_length};
 ghost use Rattle.name.specs.Packed.{base, symbol, byte_of, packed};
 ghost use Rattle.name.specs.Names.{kept, name_of, spell_room, kept_in, names_in, name_at, table_of, put_in, part_of};
-ghost use Rattle.name.specs.Answers.{as_name, as_known, found_in};
+ghost use Rattle.name.specs.Answers.{as_name, as_known, name_fault, known_fault, found_in};
 
-use reply::Fault;
+use reply::{Fault, Told};
 use text::Taken;
 
 // A name as it is kept: its symbols packed into one number.
@@ -221,6 +221,26 @@ pub fn due_name(s: &[u8], due: Name) -> Result<usize, Fault>
     Ok(name.bytes)
 }
 
+// The number of a refused name, and 0 where one stands.
+pub fn name_fault<R: Told>(p: Result<Taken<Name>, R>) -> u8
+    ensures { result ≡ name_fault R.number p }
+{
+    match p {
+        Ok(_name) => 0,
+        Err(refusal) => refusal.number_told(),
+    }
+}
+
+// The number of a name that is not known, and 0 where one is.
+pub fn known_fault<R: Told>(p: Result<Taken<usize>, R>) -> u8
+    ensures { result ≡ known_fault R.number p }
+{
+    match p {
+        Ok(_place) => 0,
+        Err(refusal) => refusal.number_told(),
+    }
+}
+
 // How many bytes a kept name has.
 pub fn name_len(w: Name) -> usize
     ensures { (result ≡ length (name_of w)) × (result ≤ spell_room) }
@@ -251,4 +271,24 @@ pub fn spell(out: &mut [u8], at: usize, w: Name) -> usize
         v /= BASE;
     }
     to
+}
+
+// Readers hand a fault on as it is. Its number is for callers outside, so that none but these calls what tells it.
+#[cfg(test)]
+mod tests {
+    use super::*;
+
+    #[test]
+    fn numbers_of_names(rt: HostRuntime) {
+        let kin = name_piece(b"kin");
+        let mut names = no_names();
+        if let Ok(name) = kin {
+            put(&mut names, 0, name.value);
+        }
+        assert_eq!(rt; name_fault(kin), 0);
+        assert_eq!(rt; name_fault(name_piece(b"")), 2);
+        assert_eq!(rt; name_fault(name_piece(b"9kin")), 3);
+        assert_eq!(rt; known_fault(known_name(b"kin", &names, 0, 1)), 0);
+        assert_eq!(rt; known_fault(known_name(b"sea", &names, 0, 1)), 3);
+    }
 }

@@ -1,33 +1,44 @@
--- A part of a slice, by what is asked of its front and of what is left behind a place.
-use Prim.Native.Nat.{ℕ, ◌+◌, ◌-◌, ◌≤◌, ◌<◌}
-use mathlib.Core.Path.{◌≡◌, sym, ap, ◌∙◌}
+-- A part of a slice, by its ends, which lie within the slice.
+use Prim.Native.Nat.{ℕ, ◌-◌, ◌≤◌, min}
+use mathlib.Core.Path.{◌≡◌, refl, sym, ap, ◌∙◌}
+use mathlib.Core.Bool.{Bool, true, false}
 use mathlib.Core.List.{List, []}
-use mathlib.Core.Logic.{◌⊎◌, inl, inr}
 use native.Mathlib.Omega.{arith}
-use lib.ListN.{length, take, drop, drop_of_length-le}
-use lib.Seq.{take_all}
-use Rattle.std.proofs.Common.{Bor}
-use Rattle.std.specs.Prelude.{Option, Some, None, MatchOption, slice_range}
-use Rattle.std.specs.Option.{unwrap_or}
-use Rattle.std.proofs.lemmas.Slice.{between_is, between_from_start, between_to_end}
+use borrow.Author.Tests.{leb-true, leb-false}
+use lib.Dec.{leb}
+use lib.ListN.{length, take, drop, drop_of_length-le, length-drop}
+use lib.Seq.{take_all, take-nil}
 
-module _ {A : Type 0} where
-  -- what `get` tells of the range from i to j of a list
-  abbrev Lookup : Option (Bor (List A)) → List A → ℕ → ℕ → Type 0
-  Lookup o xs i j = MatchOption o ((j < i) ⊎ (length xs < j)) (λ x. (i ≤ j) × (j ≤ length xs) × (x.now ≡ slice_range xs i j) × (length x.now + i ≡ j))
+module _ {A : Type 0} (xs : List A) (i j : ℕ) where
+  -- behind the last nothing stands
+  past : length xs ≤ i → (n : ℕ) → take n (drop i xs) ≡ []
+  past h n = ap (take n) (drop_of_length-le xs {i = i} h) ∙ take-nil n
 
-  front_part : (o : Option (Bor (List A))) (s : Bor (List A)) (n : ℕ) → Lookup o s.now 0 n → (unwrap_or o s).now ≡ take n s.now
-  front_part None s n (inl h) = absurd (omega arith)
-  front_part None s n (inr h) = sym (take_all n s.now (omega arith))
-  front_part (Some x) s n h = h.2 ∙ between_from_start s.now n
-
-  rest_part : (o : Option (Bor (List A))) (e : Bor (List A)) (xs : List A) (i : ℕ) → e.now ≡ [] → Lookup o xs i (length xs) → (unwrap_or o e).now ≡ drop i xs
-  rest_part None e xs i z (inl h) = z ∙ sym (drop_of_length-le xs {i = i} (omega arith))
-  rest_part None e xs i z (inr h) = absurd (omega arith)
-  rest_part (Some x) e xs i z h = h.2 ∙ between_to_end xs i (length xs) (omega arith)
-
-  pub between_part : (s f r e : Bor (List A)) (o p : Option (Bor (List A))) (i j : ℕ) → f ≡ unwrap_or o s → r ≡ unwrap_or p e → e.now ≡ []
-      → Lookup o s.now 0 j → Lookup p f.now i (length f.now) → r.now ≡ take (j - i) (drop i s.now)
-  between_part s f r e o p i j a b z h k =
-      ap (λ (x : Bor (List A)). x.now) b ∙ rest_part p e f.now i z k
-      ∙ ap (drop i) (ap (λ (x : Bor (List A)). x.now) a ∙ front_part o s j h) ∙ sym (between_is s.now i j)
+  -- up to an end e and from a start s within it
+  pub between_part : (e s : ℕ) → e ≡ min j (length xs) → s ≡ min i e → take (e - s) (drop s xs) ≡ take (j - i) (drop i xs)
+  between_part e s ee ss = go (leb i e) refl (leb j (length xs)) refl
+    where
+      go : (b : Bool) → leb i e ≡ b → (c : Bool) → leb j (length xs) ≡ c → take (e - s) (drop s xs) ≡ take (j - i) (drop i xs)
+      go true b true c =
+          let h = leb-true i e b in
+          let k = leb-true j (length xs) c in
+          let z : s ≡ i = omega arith in
+          let y : e ≡ j = omega arith in
+          rw (z, y)
+      go true b false c =
+          let h = leb-true i e b in
+          let k = leb-false j (length xs) c in
+          let z : s ≡ i = omega arith in
+          let y : e ≡ length xs = omega arith in
+          rw z (take_all (e - i) (drop i xs) (omega (arith, length-drop i xs)) ∙ sym (take_all (j - i) (drop i xs) (omega (arith, length-drop i xs))))
+      go false b true c =
+          let h = leb-false i e b in
+          let k = leb-true j (length xs) c in
+          let z : e - s ≡ 0 = omega arith in
+          let y : j - i ≡ 0 = omega arith in
+          rw (z, y)
+      go false b false c =
+          let h = leb-false i e b in
+          let k = leb-false j (length xs) c in
+          let z : e - s ≡ 0 = omega arith in
+          rw z (sym (past (omega arith) (j - i)))

@@ -1,9 +1,9 @@
 // What a request returns: the refusal numbers of the document, and the numbers of a reply.
 #![tactic(auto)]
 
-ghost use Rattle.std.specs.Prelude.{◌≡◌};
+ghost use Rattle.std.specs.Prelude.{ℕ, ◌≡◌, refl};
 ghost use Rattle.reply.specs.Answers.{refused_reply};
-ghost use Rattle.reply.specs.Faults.{number_of};
+ghost use Rattle.reply.specs.Faults.{number_of, fault_of, wrong_of, numbered, fault_again, wrong_again};
 
 // Sheet, card, event line or the desk's input over its length.
 pub const LONG: u8 = 1;
@@ -58,11 +58,119 @@ pub enum Fault {
     Many = 10,
 }
 
+// What a refusal is told by: its fault, or its number alone, which may be any.
+pub trait Told {
+    // its number
+    ghost number: { Self → ℕ };
+    // what the refusal with a number is told by
+    ghost with_number: { ℕ → Self };
+
+    // What a fault is told by.
+    fn from_fault(fault: Fault) -> Self
+        ensures { result ≡ with_number (number_of fault) };
+
+    // Its number.
+    fn number_told(self) -> u8
+        ensures { result ≡ number self };
+
+    // it is told again by its number
+    ghost again: { (r : Self) → with_number (number r) ≡ r };
+}
+
+impl Told for Fault {
+    ghost number = { number_of };
+
+    ghost with_number = { fault_of };
+
+    ghost again = { fault_again };
+
+    fn from_fault(fault: Fault) -> Fault {
+        fault
+    }
+
+    fn number_told(self) -> u8 {
+        number(self)
+    }
+}
+
+impl Told for u8 {
+    ghost number = { λ n. n };
+
+    ghost with_number = { λ n. n };
+
+    ghost again = { λ n. refl };
+
+    // A fault by its number.
+    fn from_fault(fault: Fault) -> u8 {
+        number(fault)
+    }
+
+    fn number_told(self) -> u8 {
+        self
+    }
+}
+
 // A fault of a paper, and its line.
 #[derive(Clone, Copy)]
 pub struct Wrong {
     pub fault: Fault,
     pub line: usize,
+}
+
+// What a paper's refusal is told by: its fault and line, or its number alone, which may be any, and its line.
+pub trait ToldAt {
+    // its number
+    ghost number: { Self → ℕ };
+    // its line
+    ghost line: { Self → ℕ };
+    // what the refusal with a number and a line is told by
+    ghost with_number: { ℕ → ℕ → Self };
+
+    // What a fault and its line are told by.
+    fn from_wrong(wrong: Wrong) -> Self
+        ensures { result ≡ with_number (number_of wrong.fault) wrong.line };
+
+    // it is told again by its number and line
+    ghost again: { (r : Self) → with_number (number r) (line r) ≡ r };
+}
+
+impl ToldAt for Wrong {
+    ghost number = { λ w. number_of w.fault };
+
+    ghost line = { λ w. w.line };
+
+    ghost with_number = { wrong_of };
+
+    ghost again = { wrong_again };
+
+    fn from_wrong(wrong: Wrong) -> Wrong {
+        wrong
+    }
+}
+
+// A refusal that is told by its number alone, and its line.
+#[derive(Clone, Copy)]
+pub struct Numbered {
+    pub number: u8,
+    pub line: usize,
+}
+
+impl ToldAt for Numbered {
+    ghost number = { λ r. r.number };
+
+    ghost line = { λ r. r.line };
+
+    ghost with_number = { numbered };
+
+    ghost again = { λ r. refl };
+
+    // The fault by its number, and its line.
+    fn from_wrong(wrong: Wrong) -> Numbered {
+        Numbered {
+            number: number(wrong.fault),
+            line: wrong.line,
+        }
+    }
 }
 
 // The numbers that a request returns: number, paper and line of a refusal or 0, how long the card or list is, and the tasks started as a pattern.

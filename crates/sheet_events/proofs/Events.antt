@@ -1,5 +1,5 @@
 -- The event lines: the way into their section, each way out, and on to the next line.
-use Prim.Native.Nat.{ℕ, ◌+◌, ◌-◌, ◌*◌, ◌^◌, ◌<◌, ◌≤◌}
+use Prim.Native.Nat.{ℕ, suc, ◌+◌, ◌-◌, ◌*◌, ◌^◌, ◌<◌, ◌≤◌}
 use mathlib.Core.Path.{◌≡◌, refl, sym, ◌∙◌, ap}
 use mathlib.Core.Bool.{Bool}
 use mathlib.Core.List.{List, [], ◌∷◌, ◌++◌, append_assoc}
@@ -7,10 +7,10 @@ use native.Mathlib.Nat.{sub-zero}
 use native.Mathlib.Omega.{arith}
 use borrow.Rule.Slice.PartMut.{put_mid, Post-is}
 use lib.Dec.{leb}
-use lib.ListN.{length, take, drop, set, length-append}
-use lib.Seq.{sets, sets-eq}
+use lib.ListN.{length, take, drop, set, replicate, length-append, length-drop}
+use lib.Seq.{sets, sets-eq, drop-drop}
 use mir.Val.{Fits}
-use mir.Syntax.{w64, w8}
+use mir.Syntax.{w64}
 use Rattle.std.specs.Prelude.{Result, Ok, Err, Option, Some, None}
 use Rattle.meaning.specs.Text.{text, joined}
 use Rattle.meaning.specs.Limits.{field_limit, event_limit}
@@ -22,46 +22,44 @@ use Rattle.meaning.specs.ReadSheet.{event_row, event_lines}
 use Rattle.theory.specs.Lists.Members.{joined_more}
 use Rattle.theory.specs.Lists.Padded.{padded, mapped_set, padded_sets, padded_length}
 use Rattle.theory.specs.Papers.Formed.{NoEvents, NoStages, names_event}
-use Rattle.theory.specs.Reading.Answered.{left_at}
+use Rattle.theory.specs.Reading.Answered.{Left, left_at}
 use Rattle.theory.specs.Reading.Readers.{after_after}
 use Rattle.limits.specs.Sizes.{name_room, carried_room}
 use Rattle.reply.specs.declared.Fault.{Fault}
-use Rattle.reply.specs.declared.Wrong.{Wrong}
 use Rattle.text.specs.declared.Taken.{Taken}
-use Rattle.name.specs.Names.{kept, names_in, put_in, Again}
+use Rattle.name.specs.declared.Name.{Name as Kept}
+use Rattle.name.specs.Names.{names_in, put_in, Again}
 use Rattle.sheet_tables.specs.declared.Heads.{Heads}
-use Rattle.sheet_tables.specs.Heads.{as_heads}
+use Rattle.sheet_tables.specs.Heads.{as_heads, heads_of}
 use Rattle.sheet_section.specs.declared.Above.{Above}
-use Rattle.sheet_section.specs.Answers.{as_above, as_row, so_far}
-use Rattle.sheet_section.specs.Held.{carried_row, Plain, Started}
+use Rattle.sheet_section.specs.Answers.{as_above, as_row, row_name}
+use Rattle.sheet_section.specs.Held.{carried_row, Plain, Reached}
 use Rattle.sheet_section.proofs.Rows.{tabled, counted, fields_known, names_so_far}
-use Rattle.sheet_section.proofs.Sections.{read_handed, Going, going_start, Row, RowTold, going_row, going_more}
-use Rattle.sheet_events.specs.declared.Event.{Event}
-use Rattle.sheet_events.specs.Answers.{as_event, event}
-use Rattle.sheet_events.proofs.Line.{Known, event_ends}
+use Rattle.sheet_section.proofs.Sections.{Going, going_at, next, Row, RowTold, going_row, going_more}
+use Rattle.sheet_section.proofs.Named.{Named}
+use Rattle.sheet_events.specs.Answers.{as_piece, event, piece}
+use Rattle.sheet_events.proofs.Pieces.{Pieces, pieces_start, pieces_wrong, pieces_over}
+use Rattle.sheet_events.proofs.Line.{ending, Known, told, name_wrong, name_none, named, line_wrong, line_read, event_ends}
 
 -- ALL THAT IS READ with the events, and where their section stands
-abbrev whole : List ℕ → Result Above Wrong → Got M.Heads
-whole s before = after (so_far s before) event_lines
+abbrev whole : List ℕ → Above → Got M.Heads
+whole s before = event_lines (heads_of before.heads) before.line (drop before.at s)
 
-pub record Events (s : List ℕ) (before : Result Above Wrong) (a : Above) : Type 0 where
+pub record Events (s : List ℕ) (before : Above) (a : Above) : Type 0 where
   pub small : length s < 2 ^ 64
   pub going : Going (text "event=") event_row event_limit (λ hd. length hd.events) NoStages s (whole s before) a
 
 none_yet : (hd : M.Heads) → NoEvents hd → event_limit - length hd.events ≡ event_limit
 none_yet hd h = rw h.0
 
-pub events_start : (s : List ℕ) (before : Result Above Wrong) (a : Above) → before ≡ Ok a → Started NoEvents s before → length s < 2 ^ 64 → Events s before a
-events_start s before a is started small =
+pub events_start : (s : List ℕ) (before : Above) → Reached NoEvents s before → length s < 2 ^ 64 → Events s before before
+events_start s before reached small =
     record {
       small = small;
       going =
-          going_start {key = text "event="} {row = event_row} {limit = event_limit} {size = λ hd. length hd.events} {P = NoEvents} {Q = NoStages} event_lines a
-          (λ hd h. (h.1, h.2)) (λ hd h l t. rw (none_yet hd h)) before is started;
+          going_at {key = text "event="} {row = event_row} {limit = event_limit} {size = λ hd. length hd.events} {P = NoEvents} {Q = NoStages} event_lines
+          before (λ hd h. (h.1, h.2)) (λ hd h l t. rw (none_yet hd h)) reached;
     }
-
-pub events_handed : (s : List ℕ) (before : Result Above Wrong) (w : Wrong) → before ≡ Err w → Err w ≡ as_above s (whole s before)
-events_handed s before = read_handed s before event_lines
 
 rows : (hd : M.Heads) (g : M.Heads → Reader M.Heads) (l : ℕ) (t : List ℕ)
     → after (event_row hd l t) g ≡ after (event hd.fields (length hd.fields) (all_names hd) l t) (λ e. g (with_event hd e))
@@ -69,7 +67,7 @@ unfolding event_row
 rows hd g l t = simp after_after
 
 event_told : {fs gs us vs : List Name} {m n : ℕ} → fs ≡ gs → m ≡ n → us ≡ vs → (c : Bool) (t : List ℕ)
-    → as_row as_event (text "event=") c (event fs m us) t ≡ as_row as_event (text "event=") c (event gs n vs) t
+    → as_row (λ (e : M.Event). e) (text "event=") c (event fs m us) t ≡ as_row (λ (e : M.Event). e) (text "event=") c (event gs n vs) t
 event_told e z u c t = rw (e, z, u)
 
 -- ONE MORE EVENT
@@ -123,21 +121,12 @@ module _ (hd : M.Heads) (e : M.Event) (few : length e.carries ≤ field_limit) (
       let z : x ≡ field_limit * length so = x-is ∙ rw is in
       rw (cs-is, names, ys-is, count_is, is, cells_all x z, mapped_set event_limit (λ (y : M.Event). length y.carries) so e room, length-append so (e ∷ []))
 
-module _ (s : List ℕ) (before : Result Above Wrong) (a : Above) (i : Events s before a) where
+module _ (s : List ℕ) (before : Above) (a : Above) (i : Events s before a) where
   abbrev h : Heads
   h = a.heads
 
   abbrev hd : M.Heads
   hd = i.going.sheet
-
-  pub events_fields : h.fields ≤ field_limit
-  events_fields = i.going.counts.0
-
-  pub events_events : h.events ≤ event_limit
-  events_events = i.going.counts.1
-
-  pub events_names : Fits w64 (h.fields + h.events)
-  events_names = omega (arith, i.going.counts)
 
   counts : (h.fields ≡ length hd.fields) × (h.events ≡ length hd.events) × (h.fields + h.events ≡ length (all_names hd))
   counts =
@@ -146,95 +135,113 @@ module _ (s : List ℕ) (before : Result Above Wrong) (a : Above) (i : Events s 
       let m : length hd.miles ≡ 0 = rw i.going.late.1 in
       (c.0, c.1, omega arith)
 
-  module _ (v : List ℕ) (o : Result (Option (Taken Event)) Fault) (rest : v ≡ drop a.at s)
-      (read : o ≡ as_row as_event (text "event=") (leb event_limit h.events) (event (take h.fields (names_in h.names)) h.fields (take (h.fields + h.events)
-      (names_in h.names))) v) where
-    row : RowTold i.going as_event (Known (length hd.fields)) (with_event hd) o
-    row =
-        let used = names_so_far h hd i.going.is i.going.plain (h.fields + h.events) counts.2 in
+  module _ (v : List ℕ) (o : Result (Option (Taken Kept)) Fault) (rest : v ≡ drop a.at s)
+      (read : o ≡ row_name (text "event=") (leb event_limit h.events) (take (h.fields + h.events) (names_in h.names)) v) where
+    abbrev fs : List Name
+    fs = take h.fields (names_in h.names)
+
+    abbrev full : Bool
+    full = leb event_limit h.events
+
+    abbrev used : List Name
+    used = take (h.fields + h.events) (names_in h.names)
+
+    row : (r : Result (Option (Taken M.Event)) Fault) → r ≡ told fs h.fields used full v
+        → RowTold i.going (λ (e : M.Event). e) (Known (length hd.fields)) (with_event hd) r
+    row r is =
+        let all = names_so_far h hd i.going.is i.going.plain (h.fields + h.events) counts.2 in
         let z : h.fields - 0 ≡ h.fields = sub-zero h.fields in
         let known : take h.fields (names_in h.names) ≡ hd.fields
         = ap (λ n. take n (names_in h.names)) (sym z) ∙ fields_known h hd i.going.is i.going.plain h.fields counts.0 in
-        going_row i.going as_event (Known (length hd.fields)) (with_event hd) (event_ends hd.fields (length hd.fields) (all_names hd)) (rows hd)
+        going_row i.going (λ (e : M.Event). e) (Known (length hd.fields)) (with_event hd) (event_ends hd.fields (length hd.fields) (all_names hd)) (rows hd)
         event_limit h.events
-        (omega (arith, counts.1)) v o rest (read ∙ event_told known counts.0 used (leb event_limit h.events) v)
+        (omega (arith, counts.1)) v r rest (is ∙ event_told known counts.0 all full v)
 
+    -- the section is left: a name is refused, or no event stands
     pub events_wrong : (e : Fault) → o ≡ Err e → (l : ℕ) → l ≡ a.line → Err (record { fault = e; line = l }) ≡ as_above s (whole s before)
-    events_wrong e z l y = rw y (rw z at row)
+    events_wrong e z l y = rw y (row (Err e) (name_wrong fs h.fields used full v o read e z))
 
-    pub events_over : (x : Option (Taken Event)) → o ≡ Ok x → x ≡ None → Ok a ≡ as_above s (whole s before)
-    events_over x z y = rw (z, y) at row
+    pub events_over : (x : Option (Taken Kept)) → o ≡ Ok x → x ≡ None → Ok a ≡ as_above s (whole s before)
+    events_over x z y = row (Ok None) (name_none fs h.fields used full v o read x z y)
 
-    module _ (x : Option (Taken Event)) (ok : o ≡ Ok x) (w : Taken Event) (some : x ≡ Some w) where
-      read_row : Row i.going as_event (Known (length hd.fields)) (with_event hd) w
-      read_row = rw (ok, some) at row
+    -- an event has begun
+    module _ (x : Option (Taken Kept)) (ok : o ≡ Ok x) (w : Taken Kept) (some : x ≡ Some w) where
+      abbrev begun : Named (λ (e : M.Event). e) (text "event=") full used (ending fs h.fields) v w
+      begun = named fs h.fields used full v o read x ok w some
 
-      bytes : w.bytes ≡ 6 + read_row.bytes
-      bytes = ap (λ (w : Taken Event). w.bytes) read_row.same
+      module _ (u : List ℕ) (behind : u ≡ drop (a.at + w.bytes) s) where
+        rest_is : u ≡ drop w.bytes v
+        rest_is = behind ∙ rw (rest, drop-drop w.bytes a.at s)
 
-      event_is : w.value ≡ as_event read_row.value
-      event_is = ap (λ (w : Taken Event). w.value) read_row.same
+        pub events_pieces : (row : List ℕ) → row ≡ replicate field_limit 0 → Pieces u (names_in h.names) h.fields row 0 0
+        events_pieces row is =
+            let small : length u < 2 ^ 64 = omega (arith, i.small, ap length behind, length-drop (a.at + w.bytes) s) in
+            pieces_start u (names_in h.names) h.fields row is small i.going.counts.0
 
-      many : w.value.carried.count ≡ length read_row.value.carries
-      many = ap (λ (e : Event). e.carried.count) event_is
+        module _ (cells : List ℕ) (count at : ℕ) (j : Pieces u (names_in h.names) h.fields cells count at) (u' : List ℕ) (place : u' ≡ drop at u)
+            (part : List ℕ) (taken : part ≡ take count cells) (p : Result (Option (Taken ℕ)) Fault)
+            (asked : p ≡ as_piece u' (piece fs (leb h.fields (length part)) part 0 u')) where
+          -- a piece is refused
+          pub events_fault : (e : Fault) → p ≡ Err e → (l : ℕ) → l ≡ a.line → Err (record { fault = e; line = l }) ≡ as_above s (whole s before)
+          events_fault e z l y =
+              let q = pieces_wrong u (names_in h.names) h.fields cells count at j u' place part taken p asked e z in
+              rw y (row (Err e) (line_wrong fs h.fields used full v o read x ok w some u (Err e) rest_is q e refl))
 
-      pub events_at : Fits w64 (a.at + w.bytes)
-      events_at = omega (arith, read_row.left.within, i.small)
+          -- its line is over
+          module _ (y : Option (Taken ℕ)) (fine : p ≡ Ok y) (none : y ≡ None) where
+            abbrev event_is : M.Event
+            event_is = record { name = begun.name; carries = j.so }
 
-      pub events_number : Fits w64 (a.line + 1)
-      events_number = omega (arith, read_row.left.within, i.small, i.going.lines, bytes)
+            read_row : Row i.going (λ (e : M.Event). e) (Known (length hd.fields)) (with_event hd) (record { value = event_is; bytes = w.bytes + (at + 1) })
+            read_row =
+                let q = pieces_over u (names_in h.names) h.fields cells count at j u' place part taken p asked y fine none in
+                row _ (line_read fs h.fields used full v o read x ok w some u _ rest_is q (record { value = j.so; bytes = at + 1 }) refl)
 
-      pub events_less : event_limit - (h.events + 1) < event_limit - h.events
-      events_less = omega (arith, read_row.room, counts.1)
+            same : event_is ≡ read_row.value
+            same = ap (λ (t : Taken M.Event). t.value) read_row.same
 
-      pub events_index : h.events < event_limit
-      events_index = omega (arith, read_row.room, counts.1)
+            pub events_ended : Fits w64 (w.bytes + at + 1)
+            events_ended = omega (arith, read_row.left.within, i.small)
 
-      pub events_put : h.fields + h.events < name_room
-      events_put = omega (arith, events_index, i.going.counts)
+            pub events_at : Fits w64 (a.at + (w.bytes + at + 1))
+            events_at = omega (arith, read_row.left.within, i.small)
 
-      few : length read_row.value.carries ≤ field_limit
-      few = omega (arith, read_row.holds.1, counts.0, i.going.counts)
+            put : h.fields + h.events < name_room
+            put = omega (arith, read_row.room, counts.1, i.going.counts)
 
-      pub events_byte : Fits w8 w.value.carried.count
-      events_byte = omega (arith, few, many)
+            few : length j.so ≤ field_limit
+            few = omega (arith, j.count_is, j.fewer, j.few)
 
-      pub events_more : (line : ℕ) → line ≡ a.line + 1 → (at : ℕ) → at ≡ a.at + w.bytes → (ns : List ℕ) → ns ≡ put_in h.names (h.fields + h.events) w.value.name
-          → (ys : List ℕ) → ys ≡ w.value.carried.fields → (cs : List ℕ)
-          → cs ≡ put_mid (field_limit * h.events) (field_limit * h.events + field_limit - field_limit * h.events) h.carried ys
-          → Events s before (record {
-            line = line;
-            at = at;
-            heads = tabled h.model h.fields (h.events + 1) h.stages h.miles ns cs (set h.carries h.events w.value.carried.count) h.under;
-          })
-      events_more line line_is at at_is ns p ys ys_is cs cs_is =
-          let g = i.going in
-          let e = read_row.value in
-          let name_is : w.value.name ≡ kept e.name = ap (λ (e : Event). e.name) event_is in
-          let fields_is : ys ≡ carried_row e = ys_is ∙ ap (λ (e : Event). e.carried.fields) event_is in
-          record {
-            small = i.small;
-            going =
-                going_more g (h.fields + h.events) w.value.name e.name counts.2 events_put name_is read_row.holds.0 read_row.room (with_event hd e) g.late
-                (length-append hd.events (e ∷ [])) (names_event hd e g.late) _ line_is (omega (arith, g.lines, bytes)) (left_at read_row.left at at_is)
-                (λ q. heads_event hd e few read_row.room g.plain h g.is (field_limit * h.events) refl ys fields_is cs cs_is w.value.carried.count many ns
-                (p ∙ q))
-                (plain_event hd e few read_row.room g.plain);
-          }
+            pub events_more : (line : ℕ) → line ≡ a.line + 1 → (to : ℕ) → to ≡ a.at + (w.bytes + at + 1) → (ns : List ℕ)
+                → ns ≡ put_in h.names (h.fields + h.events) w.value → (ys : List ℕ) → ys ≡ cells → (cs : List ℕ)
+                → cs ≡ put_mid (field_limit * h.events) (field_limit * h.events + field_limit - field_limit * h.events) h.carried ys
+                → Events s before (record {
+                  line = line;
+                  at = to;
+                  heads = tabled h.model h.fields (h.events + 1) h.stages h.miles ns cs (set h.carries h.events count) h.under;
+                })
+            events_more line line_is to to_is ns p ys ys_is cs cs_is =
+                let g = i.going in
+                let e = event_is in
+                let left : Left (whole s before) (next g (with_event hd e)) (suc a.line) to s
+                = rw same (left_at read_row.left to (omega (arith, to_is))) in
+                record {
+                  small = i.small;
+                  going =
+                      going_more g (h.fields + h.events) w.value e.name counts.2 put begun.same begun.again read_row.room (with_event hd e) g.late
+                      (length-append hd.events (e ∷ [])) (names_event hd e g.late) _ line_is (omega (arith, g.lines, line_is, to_is)) left
+                      (λ q. heads_event hd e few read_row.room g.plain h g.is (field_limit * h.events) refl ys (ys_is ∙ j.row_is) cs cs_is count j.count_is ns
+                      (p ∙ q))
+                      (plain_event hd e few read_row.room g.plain);
+                }
 
 pub ruleset reading = (
   events_start,
-  events_handed,
-  events_fields,
-  events_events,
-  events_names,
   events_wrong,
   events_over,
+  events_pieces,
+  events_fault,
+  events_ended,
   events_at,
-  events_number,
-  events_less,
-  events_index,
-  events_put,
-  events_byte,
   events_more,
 )

@@ -1,39 +1,39 @@
--- The fields that an event carries: the loop of `carried_fields`, piece by piece, and what its answer tells.
+-- The fields that an event carries: the next piece of its line, the loop over pieces, piece by piece, and what is read in all.
 use Prim.Native.Nat.{ℕ, zero, suc, ◌+◌, ◌-◌, ◌^◌, ◌<◌, ◌≤◌}
 use mathlib.Core.Path.{◌≡◌, refl, sym, ◌∙◌, ap, ap₂}
 use mathlib.Core.Bool.{Bool, true, false, not, ◌||◌}
 use mathlib.Core.List.{List, [], ◌∷◌, ◌++◌}
 use native.Mathlib.Nat.{sub-zero, sub-eq-zero_of_le}
 use native.Mathlib.Omega.{arith}
-use borrow.Author.Tests.{eqb-true, eqb-false, eq-eqb, ne_eqb}
-use lib.Dec.{eqb}
-use lib.ListN.{length, take, drop, set, replicate, length-append, length-take, length-drop}
-use lib.Seq.{drop-drop}
+use borrow.Author.Tests.{eqb-true, eqb-false, eq-eqb, ne_eqb, leb-true, leb-false, le-leb, lt-leb, not-true, not-false}
+use lib.Dec.{eqb, leb}
+use lib.ListN.{length, take, drop, set, replicate, length-append, length-take}
 use mir.Val.{Fits}
-use mir.Syntax.{w64, w8}
-use Rattle.std.specs.Prelude.{Result, Ok, Err}
+use mir.Syntax.{w8}
+use Rattle.std.specs.Prelude.{Result, Ok, Err, Option, Some, None}
 use Rattle.std.specs.List.{list_any}
 use Rattle.meaning.specs.Text.{text, begins, any, is_in}
 use Rattle.meaning.specs.Refusal.{LINE, NAME}
 use Rattle.meaning.specs.Limits.{field_limit}
-use Rattle.meaning.specs.Reading.{Got, Reader, after, give, choose, demand, due}
+use Rattle.meaning.specs.Reading.{Got, got, wrong, Reader, after, give, choose, demand, stands, due, line_end}
 use Rattle.meaning.specs.Name.{Name, known}
 use Rattle.meaning.specs.ReadSheet.{carried}
 use Rattle.theory.specs.Lists.Padded.{padded, padded_set, padded_take}
-use Rattle.theory.specs.Reading.Answered.{Ends, Left, left_at, ends_after, ends_map, ends_weaker, inline_ends, line_ends}
-use Rattle.theory.specs.Reading.Built.{known_built, stands_built, demand_built, line_fault, name_fault_lem}
-use Rattle.theory.specs.Reading.Piece.{piece_on, piece_off, off_answer, left_piece}
-use Rattle.text.proofs.Callers.{begins_fits, stands_here, stands_not}
+use Rattle.theory.specs.Reading.Answered.{Ends, here, Left, left_at, ends_after, ends_map, ends_weaker, ensured_ends, inline_ends, spelled_ends, line_ends}
+use Rattle.theory.specs.Reading.Built.{known_built, stands_built, demand_built, due_built, line_fault, name_fault_lem}
+use Rattle.theory.specs.Reading.Piece.{Next, piece_on, piece_off, off_answer, left_piece}
+use Rattle.theory.specs.Reading.Readers.{demand_ensures}
+use Rattle.theory.specs.Reading.Spelling.{due_spells}
+use Rattle.text.proofs.Callers.{begins_fits, stands_here, stands_not, due_here, due_off}
 use Rattle.reply.specs.declared.Fault.{Fault}
 use Rattle.reply.specs.declared.Fault.TheVariants as F
 use Rattle.reply.specs.Faults.{fault_of}
 use Rattle.text.specs.declared.Taken.{Taken}
-use Rattle.text.specs.Pieces.{as_length}
+use Rattle.text.specs.Pieces.{as_taken}
 use Rattle.name.proofs.Callers.{known_ends}
 use Rattle.name.specs.Answers.{as_known}
-use Rattle.sheet_section.proofs.Ends.{closing, end_off, end_on}
-use Rattle.sheet_events.specs.declared.Carried.{Carried}
-use Rattle.sheet_events.specs.Answers.{carried_row, as_carried}
+use Rattle.sheet_section.proofs.Ends.{closing}
+use Rattle.sheet_events.specs.Answers.{as_piece, end_of, field_of, piece}
 
 -- whether a field is among those
 turned : (x y : ℕ) → eqb x y ≡ eqb y x
@@ -48,6 +48,142 @@ unfolding any
 among_is f [] = refl
 among_is f (x ∷ xs) = ap₂ (λ a b. a || b) (turned x f) (among_is f xs)
 
+-- THE LINE'S END: the returns of `line_end`
+pub end_none : (t : List ℕ) (b : Bool) → b ≡ begins (text "\n") t → not b ≡ true → Err F.Line ≡ end_of (begins (text "\n") t)
+end_none t b e z = rw (← e, not-true b z)
+
+pub end_here : (t : List ℕ) (b : Bool) → b ≡ begins (text "\n") t → not b ≡ false → Ok None ≡ end_of (begins (text "\n") t)
+end_here t b e z = rw (← e, not-false b z)
+
+abbrev as_place : ℕ → ℕ → Taken ℕ
+as_place i n = record { value = i; bytes = n }
+
+-- THE NEXT PIECE, where the fields `so` are carried so far
+module _ (ns : List Name) (most : ℕ) (so t : List ℕ) (b : Bool) (tested : b ≡ begins (text " ") t) where
+  abbrev asked : Result (Option (Taken ℕ)) Fault
+  asked = as_piece t (piece (take most ns) (leb most (length so)) so 0 t)
+
+  -- no further field
+  bare : not b ≡ true → piece (take most ns) (leb most (length so)) so 0 t ≡ after (due LINE (text "\n") 0 t) (λ u. give None)
+  unfolding piece
+  bare e = rw (stands_not (text " ") 0 t b tested (not-true b e))
+
+  pub piece_end : not b ≡ true → (r : Result (Option (Taken ℕ)) Fault) → r ≡ end_of (begins (text "\n") t) → r ≡ asked
+  piece_end e r is = is ∙ go (begins (text "\n") t) refl
+    where
+      go : (c : Bool) → begins (text "\n") t ≡ c → end_of c ≡ asked
+      go true z = rw (bare e, due_here LINE (text "\n") 0 t (λ h. omega (arith, begins_fits (text "\n") t z)) true (sym z) refl)
+      go false z = rw (bare e, due_off (text "\n") 0 t false (sym z) refl)
+
+  -- a further one
+  module _ (e : not b ≡ false) (v : List ℕ) (p : Result (Taken ℕ) Fault) (rest : v ≡ drop 1 t)
+      (asked_for : p ≡ as_known v (known (take (most - 0) (drop 0 ns)) 0 v)) where
+    abbrev new : ℕ → Reader (Option ℕ)
+    new f = λ l u. after (demand NAME (not (leb most (length so) || is_in f so)) l u) (λ w. give (Some f))
+
+    read : p ≡ as_known v (known (take most ns) 0 v)
+    read = let m : most - 0 ≡ most = sub-zero most in rw m at asked_for
+
+    spaced : Left (piece (take most ns) (leb most (length so)) so 0 t) (λ l u. after (known (take most ns) l u) new) 0 1 t
+    unfolding piece
+    spaced =
+        record {
+          within = begins_fits (text " ") t (sym tested ∙ not-false b e);
+          is = rw (stands_here (text " ") 0 t b tested (not-false b e));
+        }
+
+    pub piece_unknown : (d : Fault) → p ≡ Err d → Err d ≡ asked
+    piece_unknown d z = off_answer field_of t (piece_off as_place fault_of (known_ends (take most ns)) new spaced v rest p read d z)
+
+    module _ (k : Taken ℕ) (z : p ≡ Ok k) where
+      placed : (k.value < length (take most ns)) × Left (piece (take most ns) (leb most (length so)) so 0 t) (new k.value) 0 (k.bytes + 1) t
+      placed =
+          let o = piece_on as_place fault_of (known_ends (take most ns)) new spaced v rest p read k z in
+          let value : k.value ≡ o.value = ap (λ (k : Taken ℕ). k.value) o.same in
+          let bytes : k.bytes + 1 ≡ 1 + o.bytes = omega (arith, ap (λ (k : Taken ℕ). k.bytes) o.same) in
+          rw (value, bytes) (o.holds.0, o.left)
+
+      told : piece (take most ns) (leb most (length so)) so 0 t ≡ new k.value 0 (drop (k.bytes + 1) t)
+      told = placed.1.is
+
+      pub piece_many : most ≤ length so → Err F.Name ≡ asked
+      piece_many h = rw (told, le-leb most (length so) h)
+
+      module _ (room : length so < most) (c : Bool) (twice : c ≡ list_any (λ y. eqb y k.value) so) where
+        found : is_in k.value so ≡ c
+        found = sym (twice ∙ among_is k.value so)
+
+        pub piece_twice : c ≡ true → Err F.Name ≡ asked
+        piece_twice y = rw (told, lt-leb most (length so) room, found, y)
+
+        pub piece_read : c ≡ false → (r : Taken ℕ) → r ≡ record { value = k.value; bytes = k.bytes + 1 } → Ok (Some r) ≡ asked
+        piece_read y r is =
+            let last : Left (piece (take most ns) (leb most (length so)) so 0 t) (give (Some k.value)) 0 (k.bytes + 1) t
+            = record { within = placed.1.within; is = told ∙ rw (lt-leb most (length so) room, found, y) } in
+            rw is (left_piece field_of fault_of last (Some (record { value = k.value; bytes = k.bytes + 1 })) refl)
+
+pub ruleset next_piece = (piece_end, piece_unknown, piece_many, piece_twice, piece_read)
+
+-- what a piece tells: a field where there is room for one, or the byte of an LF
+abbrev Told : List Name → Bool → Option ℕ → ℕ → Type 0
+Told fs full None n = n ≡ 1
+Told fs full (Some f) n = (full ≡ false) × (f < length fs)
+
+space_ends : (t : List ℕ) → Ends here (λ b n. b ≡ false → n ≡ 0) (stands (text " ")) t
+space_ends t = go (begins (text " ") t) refl
+  where
+    go : (b : Bool) → begins (text " ") t ≡ b → Ends here (λ b n. b ≡ false → n ≡ 0) (stands (text " ")) t
+    go true e = Ends.found true 1 (λ z. cc) (begins_fits (text " ") t e) (λ l. stands_here (text " ") l t true (sym e) refl)
+    go false e = Ends.found false 0 (λ z. refl) (omega arith) (λ l. stands_not (text " ") l t false (sym e) refl)
+
+piece_ends : (fs : List Name) (full : Bool) (so t : List ℕ) → Ends here (Told fs full) (piece fs full so) t
+unfolding piece
+piece_ends fs full so t = ends_after (Told fs full) _ (space_ends t) λ b n z. go b n z (drop n t)
+  where
+    room : (full c : Bool) → not (full || c) ≡ true → full ≡ false
+    room false c e = refl
+    room true c e = cc
+
+    go : (b : Bool) (n : ℕ) → (b ≡ false → n ≡ 0) → (u : List ℕ) → Ends here (λ o i. Told fs full o (n + i)) (choose b (λ l t. after (known fs l t)
+        (λ f l t. after (demand NAME (not (full || is_in f so)) l t) (λ w. give (Some f)))) (λ l t. after (due LINE (text "\n") l t) (λ w. give None))) u
+    go true n z u =
+        ends_after (λ o i. Told fs full o (n + i)) _ (known_ends fs u) λ f k h.
+        ends_map (λ _. Some f) (λ w i e. (room full (is_in f so) e, h.0))
+        (ensured_ends (demand_built (not (full || is_in f so)) name_fault_lem) (demand_ensures NAME (not (full || is_in f so))) (drop k u))
+    go false n z u =
+        ends_map (λ _. None) (λ w i e. omega (arith, z refl)) (spelled_ends (due_built (text "\n") line_fault) (due_spells LINE (text "\n")) u)
+
+-- what is read behind a piece: the line is over, or there is a further one
+abbrev behind : List Name → ℕ → List ℕ → Option ℕ → Reader (List ℕ)
+behind fs m so None = λ l t. got so (suc l) t
+behind fs m so (Some f) = carried fs m (so ++ (f ∷ []))
+
+carried_is : (fs : List Name) (m : ℕ) (full : Bool) → (full ≡ true → m ≡ 0) → (so : List ℕ) (l : ℕ) (t : List ℕ)
+    → carried fs (suc m) so l t ≡ after (piece fs full so l t) (behind fs m so)
+unfolding carried piece line_end
+carried_is fs m full h so l t = go (begins (text " ") t) refl
+  where
+    field : (f : ℕ) (b c : Bool) → (b ≡ true → m ≡ 0) → (l : ℕ) (u : List ℕ)
+        → after (demand NAME (not c) l u) (λ w. carried fs m (so ++ (f ∷ [])))
+        ≡ after (after (demand NAME (not (b || c)) l u) (λ w. give (Some f))) (behind fs m so)
+    field f true true h l u = refl
+    field f false true h l u = refl
+    field f true false h l u = rw (h refl)
+    field f false false h l u = refl
+
+    named : (x : Got ℕ) → after x (λ f l u. after (demand NAME (not (is_in f so)) l u) (λ w. carried fs m (so ++ (f ∷ []))))
+        ≡ after (after x (λ f l u. after (demand NAME (not (full || is_in f so)) l u) (λ w. give (Some f)))) (behind fs m so)
+    named (got f l u) = field f full (is_in f so) h l u
+    named (wrong n l) = refl
+
+    closed : (x : Got (Unit {0})) → after (after x (λ w l u. got w (suc l) u)) (λ w. give so) ≡ after (after x (λ w. give None)) (behind fs m so)
+    closed (got w l u) = refl
+    closed (wrong n l) = refl
+
+    go : (b : Bool) → begins (text " ") t ≡ b → carried fs (suc m) so l t ≡ after (piece fs full so l t) (behind fs m so)
+    go true e = rw (stands_here (text " ") l t true (sym e) refl) (named (known fs l (drop 1 t)))
+    go false e = rw (stands_not (text " ") l t false (sym e) refl) (closed (due LINE (text "\n") l t))
+
 -- PIECE AFTER PIECE: the fields so far, and what is left of the line
 module _ (t : List ℕ) (ns : List Name) (most : ℕ) where
   abbrev fs : List Name
@@ -56,11 +192,8 @@ module _ (t : List ℕ) (ns : List Name) (most : ℕ) where
   abbrev whole : Got (List ℕ)
   whole = carried fs (suc most) [] 0 t
 
-  abbrev told : Result (Taken Carried) Fault
-  told = as_carried t whole
-
-  abbrev as_fields : List ℕ → ℕ → Taken Carried
-  as_fields so n = record { value = carried_row so; bytes = n }
+  abbrev as_fields : List ℕ → ℕ → Taken (List ℕ)
+  as_fields so n = record { value = so; bytes = n }
 
   pub record Pieces (row : List ℕ) (count at : ℕ) : Type 0 where
     pub small : length t < 2 ^ 64
@@ -85,138 +218,88 @@ module _ (t : List ℕ) (ns : List Name) (most : ℕ) where
         left = record { within = omega arith; is = rw m };
       }
 
-  module _ (row : List ℕ) (count at : ℕ) (i : Pieces row count at) (u : List ℕ) (b : Bool) (here : u ≡ drop at t) (space : b ≡ begins (text " ") u) where
-    -- NO FURTHER FIELD
-    module _ (off : b ≡ false) where
-      over : Left whole (closing (give i.so)) 0 at t
-      unfolding carried
-      over = record { within = i.left.within; is = i.left.is ∙ rw (stands_not (text " ") 0 (drop at t) b (rw here at space) off) }
+  module _ (row : List ℕ) (count at : ℕ) (i : Pieces row count at) where
+    module _ (u : List ℕ) (place : u ≡ drop at t) (v : List ℕ) (part : v ≡ take count row) (p : Result (Option (Taken ℕ)) Fault)
+        (asked : p ≡ as_piece u (piece fs (leb most (length v)) v 0 u)) where
+      abbrev full : Bool
+      full = leb most (length i.so)
 
-      module _ (v : List ℕ) (d : Result ℕ Fault) (rest : v ≡ drop at t) (asked : d ≡ as_length v (due LINE (text "\n") 0 v)) where
-        pub pieces_open : (e : Fault) → d ≡ Err e → Err e ≡ told
-        pieces_open e z = off_answer as_fields t (end_off (give i.so) over v rest d asked e z)
+      answer : p ≡ as_piece u (piece fs full i.so 0 u)
+      answer =
+          let so_far : v ≡ i.so = part ∙ rw (i.row_is, i.count_is, padded_take field_limit 0 i.so) in
+          rw so_far at asked
 
-        pub pieces_room : (n : ℕ) → d ≡ Ok n → Fits w64 (at + n)
-        pieces_room n z = let o = end_on (give i.so) over v rest d asked n z in omega (arith, o.left.within, o.same, i.small)
+      left : Left whole (λ l t. after (piece fs full i.so l t) (behind fs (most - count) i.so)) 0 at t
+      left =
+          record {
+            within = i.left.within;
+            is = i.left.is
+                ∙ carried_is fs (most - count) full (λ e. sub-eq-zero_of_le (omega (arith, leb-true most (length i.so) e, i.count_is))) i.so 0 (drop at t);
+          }
 
-        pub pieces_closed : (n : ℕ) → d ≡ Ok n → (r : Taken Carried)
-            → r ≡ record { value = record { fields = row; count = count }; bytes = at + n } → Ok r ≡ told
-        pieces_closed n z r e =
-            let o = end_on (give i.so) over v rest d asked n z in
-            let far : at + n ≡ at + o.bytes = omega (arith, o.same) in
-            left_piece as_fields fault_of o.left r (e ∙ ap₂ (λ v n. record { value = v; bytes = n })
-            (ap₂ (λ f c. record { fields = f; count = c }) i.row_is i.count_is) far)
+      pub pieces_wrong : (e : Fault) → p ≡ Err e → Err e ≡ as_taken (λ (so : List ℕ). so) t whole
+      pieces_wrong e z =
+          off_answer as_fields t (piece_off field_of fault_of (piece_ends fs full i.so) (behind fs (most - count) i.so) left u place p answer e z)
 
-    -- A FURTHER ONE
-    module _ (on : b ≡ true) where
-      abbrev new : ℕ → Reader (List ℕ)
-      new f = λ l t. after (demand NAME (not (is_in f i.so)) l t) (λ u. carried fs (most - count) (i.so ++ (f ∷ [])))
+      module _ (x : Option (Taken ℕ)) (ok : p ≡ Ok x) where
+        next : Next field_of (Told fs full) whole (behind fs (most - count) i.so) 0 at t x
+        next = piece_on field_of fault_of (piece_ends fs full i.so) (behind fs (most - count) i.so) left u place p answer x ok
 
-      fits : at + 1 ≤ length t
-      fits = omega (arith, begins_fits (text " ") u (sym space ∙ on), ap length here, length-drop at t, i.left.within)
-
-      spaced : Left whole (λ l t. after (known fs l t) new) 0 (at + 1) t
-      unfolding carried
-      spaced = record { within = fits; is = i.left.is ∙ rw (stands_here (text " ") 0 (drop at t) b (rw here at space) on, drop-drop 1 at t) }
-
-      pub pieces_next : Fits w64 (at + 1)
-      pieces_next = omega (arith, fits, i.small)
-
-      module _ (v : List ℕ) (p : Result (Taken ℕ) Fault) (rest : v ≡ drop (at + 1) t)
-          (asked : p ≡ as_known v (known (take (most - 0) (drop 0 ns)) 0 v)) where
-        read : p ≡ as_known v (known fs 0 v)
-        read = let m : most - 0 ≡ most = sub-zero most in rw m at asked
-
-        abbrev as_place : ℕ → ℕ → Taken ℕ
-        as_place k n = record { value = k; bytes = n }
-
-        pub pieces_unknown : (e : Fault) → p ≡ Err e → Err e ≡ told
-        pieces_unknown e z = off_answer as_fields t (piece_off as_place fault_of (known_ends fs) new spaced v rest p read e z)
-
-        module _ (k : Taken ℕ) (ok : p ≡ Ok k) where
-          further : (k.value < length fs) × Left whole (new k.value) 0 (at + 1 + k.bytes) t
-          further =
-              let o = piece_on as_place fault_of (known_ends fs) new spaced v rest p read k ok in
-              let value : k.value ≡ o.value = ap (λ (k : Taken ℕ). k.value) o.same in
-              let bytes : at + 1 + k.bytes ≡ at + 1 + o.bytes = omega (arith, ap (λ (k : Taken ℕ). k.bytes) o.same) in
-              moved k.value o.value value (at + 1 + k.bytes) (at + 1 + o.bytes) bytes (o.holds.0, o.left)
+        -- the line is over
+        module _ (none : x ≡ None) where
+          over : Left whole (give i.so) 1 (at + 1) t
+          over = go next.value next.bytes next.holds (sym none ∙ next.same) next.left
             where
-              moved : (f g : ℕ) → f ≡ g → (m n : ℕ) → m ≡ n → (g < length fs) × Left whole (new g) 0 n t → (f < length fs) × Left whole (new f) 0 m t
-              moved f g e m n z h = rw (e, z) h
+              go : (o : Option ℕ) (n : ℕ) → Told fs full o n → None ≡ field_of o n → Left whole (behind fs (most - count) i.so o) 0 (at + n) t
+                  → Left whole (give i.so) 1 (at + 1) t
+              go None n h e l = let o : Left whole (give i.so) 1 (at + n) t = record { within = l.within; is = l.is } in left_at o (at + 1) (omega (arith, h))
+              go (Some f) n h e l = cc
 
-          pub pieces_at : Fits w64 (1 + k.bytes)
-          pieces_at = omega (arith, further.1.within, i.small)
+          pub pieces_over : Ok (record { value = i.so; bytes = at + 1 }) ≡ as_taken (λ (so : List ℕ). so) t whole
+          pieces_over = left_piece as_fields fault_of over (record { value = i.so; bytes = at + 1 }) refl
 
-          pub pieces_far : Fits w64 (at + (1 + k.bytes))
-          pieces_far = omega (arith, further.1.within, i.small)
+        -- a further field
+        module _ (k : Taken ℕ) (some : x ≡ Some k) where
+          further : (full ≡ false) × (k.value < length fs) × Left whole (carried fs (most - count) (i.so ++ (k.value ∷ []))) 0 (at + k.bytes) t
+          further = go next.value next.bytes next.holds (sym some ∙ next.same) next.left
+            where
+              some_is : {j k : Taken ℕ} → ◌≡◌ {A = Option (Taken ℕ)} (Some j) (Some k) → j ≡ k
+              some_is e = cc
+
+              go : (o : Option ℕ) (n : ℕ) → Told fs full o n → Some k ≡ field_of o n → Left whole (behind fs (most - count) i.so o) 0 (at + n) t
+                  → (full ≡ false) × (k.value < length fs) × Left whole (carried fs (most - count) (i.so ++ (k.value ∷ []))) 0 (at + k.bytes) t
+              go None n h e l = cc
+              go (Some f) n h e l = rw (some_is e) (h.0, h.1, l)
+
+          room : count < most
+          room = omega (arith, leb-false most (length i.so) further.0, i.count_is)
+
+          pub pieces_index : count < field_limit
+          pieces_index = omega (arith, room, i.few)
 
           pub pieces_byte : Fits w8 k.value
-          pieces_byte = omega (arith, further.0, i.few, length-take most ns)
+          pieces_byte = omega (arith, further.1, i.few, length-take most ns)
 
-          told_name : whole
-              ≡ after (demand NAME (not (is_in k.value i.so)) 0 (drop (at + 1 + k.bytes) t)) (λ u. carried fs (most - count) (i.so ++ (k.value ∷ [])))
-          told_name = further.1.is
+          pub pieces_fewer : most - (count + 1) < most - count
+          pieces_fewer = omega (arith, room)
 
-          pub pieces_many : most ≤ count → Err F.Name ≡ told
-          unfolding carried
-          pieces_many h = go (is_in k.value i.so) refl
-            where
-              go : (c : Bool) → is_in k.value i.so ≡ c → Err F.Name ≡ told
-              go true e = rw (told_name, e)
-              go false e = rw (told_name, e, sub-eq-zero_of_le h)
+          pub pieces_more : (row' : List ℕ) → row' ≡ set row count k.value → (at' : ℕ) → at' ≡ at + k.bytes → Pieces row' (count + 1) at'
+          pieces_more row' row_is at' at_is =
+              let one : length (i.so ++ (k.value ∷ [])) ≡ length i.so + 1 = length-append i.so (k.value ∷ []) in
+              let m : suc (most - (count + 1)) ≡ most - count = omega (arith, room) in
+              let stored : set row count k.value ≡ padded field_limit 0 (i.so ++ (k.value ∷ []))
+              = rw (i.row_is, i.count_is) (padded_set field_limit 0 i.so k.value (omega (arith, pieces_index, i.count_is))) in
+              record {
+                small = i.small;
+                few = i.few;
+                so = i.so ++ (k.value ∷ []);
+                row_is = row_is ∙ stored;
+                count_is = omega (arith, one, i.count_is);
+                fewer = omega (arith, room);
+                left = rw m (left_at further.2 at' at_is);
+              }
 
-          module _ (room : count < most) where
-            pub pieces_part : count ≤ field_limit
-            pieces_part = omega (arith, i.few)
-
-            pub pieces_index : count < field_limit
-            pieces_index = omega (arith, i.few)
-
-            module _ (c : Bool) (twice : c ≡ list_any (λ y. eqb y k.value) (take count row)) where
-              found : is_in k.value i.so ≡ c
-              found = sym (twice ∙ among_is k.value (take count row) ∙ rw (i.row_is, i.count_is, padded_take field_limit 0 i.so))
-
-              pub pieces_twice : c ≡ true → Err F.Name ≡ told
-              pieces_twice e = rw (told_name, found, e)
-
-              pub pieces_fewer : most - (count + 1) < most - count
-              pieces_fewer = omega arith
-
-              pub pieces_more : c ≡ false → (row' : List ℕ) → row' ≡ set row count k.value → (at' : ℕ) → at' ≡ at + (1 + k.bytes) → Pieces row' (count + 1) at'
-              pieces_more e row' row_is at' at_is =
-                  let one : length (i.so ++ (k.value ∷ [])) ≡ length i.so + 1 = length-append i.so (k.value ∷ []) in
-                  let m : suc (most - (count + 1)) ≡ most - count = omega arith in
-                  let stored : set row count k.value ≡ padded field_limit 0 (i.so ++ (k.value ∷ []))
-                  = rw (i.row_is, i.count_is) (padded_set field_limit 0 i.so k.value (omega (arith, i.few, i.count_is))) in
-                  let left : Left whole (carried fs (most - count) (i.so ++ (k.value ∷ []))) 0 (at + 1 + k.bytes) t
-                  = record { within = further.1.within; is = told_name ∙ rw (found, e) } in
-                  record {
-                    small = i.small;
-                    few = i.few;
-                    so = i.so ++ (k.value ∷ []);
-                    row_is = row_is ∙ stored;
-                    count_is = omega (arith, one, i.count_is);
-                    fewer = omega arith;
-                    left = rw m (left_at left at' (omega arith));
-                  }
-
-pub ruleset piecing = (
-  pieces_start,
-  pieces_open,
-  pieces_room,
-  pieces_closed,
-  pieces_next,
-  pieces_unknown,
-  pieces_at,
-  pieces_far,
-  pieces_byte,
-  pieces_many,
-  pieces_part,
-  pieces_index,
-  pieces_twice,
-  pieces_fewer,
-  pieces_more,
-)
+pub ruleset piecing = (pieces_index, pieces_byte, pieces_fewer, pieces_more)
 
 -- WHAT IS READ: fewer fields than there was room for
 carried_ends : (fs : List Name) (m : ℕ) (so t : List ℕ) → Ends suc (λ ns n. length ns < length so + m) (carried fs m so) t

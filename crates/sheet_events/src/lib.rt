@@ -1,112 +1,120 @@
 // The event lines of a sheet.
 #![tactic(auto)]
 
-ghost use Rattle.std.specs.Prelude.{◌≡◌, ◌+◌, ◌≤◌, suc, leb, [], take};
-ghost use Rattle.meaning.specs.Text.{text};
-ghost use Rattle.meaning.specs.Limits.{field_limit, event_limit};
+ghost use Rattle.std.specs.Prelude.{◌≡◌, length, eqb, leb, take, drop};
+ghost use Rattle.std.specs.List.{list_any};
+ghost use Rattle.meaning.specs.Text.{text, begins};
+ghost use Rattle.meaning.specs.Limits.{event_limit};
 ghost use Rattle.meaning.specs.Reading.{after};
-ghost use Rattle.meaning.specs.ReadSheet.{carried, event_lines};
+ghost use Rattle.meaning.specs.ReadSheet.{event_lines};
 ghost use Rattle.theory.specs.Papers.Formed.{NoEvents};
 ghost use Rattle.name.specs.Names.{names_in};
-ghost use Rattle.sheet_section.specs.Answers.{as_above, as_row, so_far};
-ghost use Rattle.sheet_section.specs.Held.{Started};
-ghost use Rattle.sheet_events.specs.Answers.{as_carried, as_event, event};
+ghost use Rattle.sheet_tables.specs.Heads.{heads_of};
+ghost use Rattle.sheet_section.specs.Answers.{as_above_by, as_above, row_name, so_far_by};
+ghost use Rattle.sheet_section.specs.Held.{Started, Reached};
+ghost use Rattle.sheet_events.specs.Answers.{as_piece, end_of, piece};
 
 use name::Name;
-use reply::{Fault, Wrong};
+use reply::{Fault, ToldAt, Wrong};
 use sheet_section::Above;
 use sheet_tables::Heads;
 use text::Taken;
 
-// The fields that an event carries: the first `count` of a row.
-#[derive(Clone, Copy)]
-struct Carried {
-    fields: [u8; limits::FIELDS],
-    count: usize,
-}
-
-// An event: its name and the fields that it carries.
-#[derive(Clone, Copy)]
-struct Event {
-    name: Name,
-    carried: Carried,
-}
-
-// What ends an event's line: the fields that it carries, none of them twice, and how many bytes they and LF took. The first `fields` names are those of fields.
-fn carried_fields(t: &[u8], names: &[u64], fields: usize) -> Result<Taken<Carried>, Fault>
-    requires { fields ≤ field_limit }
-    ensures { result ≡ as_carried t.now (carried (take fields (names_in names.now)) (suc fields) [] 0 t.now) }
+// Whether an event that carries these fields carries the field already.
+fn is_carried(so: &[u8], field: usize) -> bool
+    ensures { result ≡ list_any (λ f. eqb f field) so.now }
 {
-    let mut row = [0; limits::FIELDS];
-    let mut count = 0;
-    let mut at = 0;
-    while text::starts(text::rest(t, at), b" ") {
-        let field = name::known_name(text::rest(t, at + 1), names, 0, fields)?;
-        let f = field.value as u8;
-        if fields <= count {
-            return Err(Fault::Name);
-        }
-        if row[..count].contains(&f) {
-            return Err(Fault::Name);
-        }
-        row[count] = f;
-        count += 1;
-        at += 1 + field.bytes;
+    so.iter().any(|f| *f as usize == field)
+}
+
+// The key and the name of the next event, where there are `e` so far, and how many bytes they took; nothing where its key does not stand. The name is none of
+// the first `n`.
+fn event_name(t: &[u8], names: &[u64], n: usize, e: usize) -> Result<Option<Taken<Name>>, Fault>
+    ensures { result ≡ row_name (text "event=") (leb event_limit e) (take n (names_in names.now)) t.now }
+{
+    sheet_section::row_name(t, b"event=", limits::EVENTS <= e, names, n)
+}
+
+// The end of an event's line, which is due where no further field stands.
+fn line_end(t: &[u8]) -> Result<Option<Taken<usize>>, Fault>
+    ensures { result ≡ end_of (begins (text "\n") t.now) }
+{
+    if !text::starts(t, b"\n") {
+        return Err(Fault::Line);
     }
-    let end = text::due_text(text::rest(t, at), b"\n", Fault::Line)?;
-    Ok(Taken {
-        value: Carried { fields: row, count },
-        bytes: at + end,
-    })
+    Ok(None)
 }
 
-// An event's line: its name and the fields that it carries, and how many bytes the line took; nothing where none stands.
-fn event_line(t: &[u8], heads: &Heads) -> Result<Option<Taken<Event>>, Fault>
-    requires fields { heads.now.fields ≤ field_limit }
-    requires events { heads.now.events ≤ event_limit }
-    ensures { result ≡ as_row as_event (text "event=") (leb event_limit heads.now.events) (event (take heads.now.fields (names_in heads.now.names))
-        heads.now.fields (take (heads.now.fields + heads.now.events) (names_in heads.now.names))) t.now }
+// The next piece of an event's line, where the fields in `so` are carried so far: a further one, and how many bytes that took; nothing where the line ends.
+// None stands twice, and never more than there are.
+fn next_piece(t: &[u8], heads: &Heads, so: &[u8]) -> Result<Option<Taken<usize>>, Fault>
+    ensures { result ≡ as_piece t.now (piece (take heads.now.fields (names_in heads.now.names)) (leb heads.now.fields (length so.now)) so.now 0 t.now) }
 {
-    let full = limits::EVENTS <= heads.events;
-    let used = heads.fields + heads.events;
-    let Some(name) = sheet_section::row_name(t, b"event=", full, &heads.names, used)? else {
-        return Ok(None);
-    };
-    let carried = carried_fields(text::rest(t, name.bytes), &heads.names, heads.fields)?;
+    if !text::starts(t, b" ") {
+        return line_end(t);
+    }
+    let field = name::known_name(text::rest(t, 1), &heads.names, 0, heads.fields)?;
+    if heads.fields <= so.len() {
+        return Err(Fault::Name);
+    }
+    if is_carried(so, field.value) {
+        return Err(Fault::Name);
+    }
     Ok(Some(Taken {
-        value: Event {
-            name: name.value,
-            carried: carried.value,
-        },
-        bytes: name.bytes + carried.bytes,
+        value: field.value,
+        bytes: field.bytes + 1,
     }))
 }
 
-// The event lines, from where the sheet is read to.
-pub fn read_events(s: &[u8], before: Result<Above, Wrong>) -> Result<Above, Wrong>
-    requires { Started NoEvents s.now before }
-    ensures { result ≡ as_above s.now (after (so_far s.now before) event_lines) }
+// Line after line behind what was read before, and piece after piece of a line; the first fault ends the scan.
+fn scan_events(s: &[u8], before: Above) -> Result<Above, Wrong>
+    requires { Reached NoEvents s.now before }
+    ensures { result ≡ as_above s.now (event_lines (heads_of before.heads) before.line (drop before.at s.now)) }
 {
     // Stays: each section has its loop; said once it would take two closures, one that reads a row from the tables and one that puts it into them, no plainer.
-    let mut above = before?;
-    'lines: loop {
+    let mut above = before;
+    let wrong = 'scan: loop {
         let line = above.line;
         let e = above.heads.events;
         let n = above.heads.fields + e;
         let from = limits::FIELDS * e;
-        let row = event_line(text::rest(s, above.at), &above.heads);
-        match row {
-            Err(fault) => return Err(Wrong { fault, line }),
+        let name = match event_name(text::rest(s, above.at), &above.heads.names, n, e) {
+            Err(fault) => break 'scan Wrong { fault, line },
             Ok(None) => return Ok(above),
-            Ok(Some(event)) => {
-                let carried = event.value.carried;
-                name::put(&mut above.heads.names, n, event.value.name);
-                above.heads.carried[from..from + limits::FIELDS].copy_from_slice(&carried.fields);
-                above.heads.carries[e] = carried.count as u8;
-                above.heads.events = e + 1;
-                above.line = line + 1;
-                above.at += event.bytes;
+            Ok(Some(name)) => name,
+        };
+        let t = text::rest(s, above.at + name.bytes);
+        let mut carried = [0; limits::FIELDS];
+        let mut count = 0;
+        let mut at = 0;
+        'pieces: loop {
+            match next_piece(text::rest(t, at), &above.heads, &carried[..count]) {
+                Err(fault) => break 'scan Wrong { fault, line },
+                Ok(None) => break 'pieces,
+                Ok(Some(field)) => {
+                    carried[count] = field.value as u8;
+                    count += 1;
+                    at += field.bytes;
+                }
             }
         }
+        name::put(&mut above.heads.names, n, name.value);
+        above.heads.carried[from..from + limits::FIELDS].copy_from_slice(&carried);
+        above.heads.carries[e] = count as u8;
+        above.heads.events = e + 1;
+        above.line = line + 1;
+        above.at += name.bytes + at + 1;
+    };
+    Err(wrong)
+}
+
+// The event lines, from where the sheet is read to.
+pub fn read_events<W: ToldAt>(s: &[u8], before: Result<Above, W>) -> Result<Above, W>
+    requires { Started NoEvents s.now before }
+    ensures { result ≡ as_above_by W.with_number s.now (after (so_far_by W.number W.line s.now before) event_lines) }
+{
+    match before {
+        Ok(above) => sheet_section::as_told(scan_events(s, above)),
+        Err(refusal) => Err(refusal),
     }
 }

@@ -24,21 +24,20 @@ use Rattle.theory.specs.Reading.Shown.{shown_ends}
 use Rattle.theory.specs.Papers.Formed.{NoFields, NoEvents, names_field}
 use Rattle.limits.specs.Sizes.{name_room}
 use Rattle.reply.specs.declared.Fault.{Fault}
-use Rattle.reply.specs.declared.Wrong.{Wrong}
 use Rattle.text.specs.declared.Taken.{Taken}
 use Rattle.text.specs.Pieces.{as_length}
 use Rattle.name.specs.declared.Name.{Name as Kept}
 use Rattle.name.specs.Names.{kept, name_of, names_in, put_in}
 use Rattle.name.proofs.Callers.{new_shows, good_again}
 use Rattle.sheet_tables.specs.declared.Heads.{Heads}
-use Rattle.sheet_tables.specs.Heads.{as_heads}
+use Rattle.sheet_tables.specs.Heads.{as_heads, heads_of}
 use Rattle.sheet_section.specs.declared.Above.{Above}
-use Rattle.sheet_section.specs.Answers.{as_above, as_row, row_name, so_far}
-use Rattle.sheet_section.specs.Held.{Started}
+use Rattle.sheet_section.specs.Answers.{as_above, as_row, row_name}
+use Rattle.sheet_section.specs.Held.{Reached}
 use Rattle.sheet_section.proofs.Ends.{closing, end_off, end_on}
 use Rattle.sheet_section.proofs.Named.{Named, name_told, line_off, line_on}
 use Rattle.sheet_section.proofs.Rows.{tabled, counted, names_so_far}
-use Rattle.sheet_section.proofs.Sections.{read_handed, Going, going_start, Row, RowTold, going_row, going_more}
+use Rattle.sheet_section.proofs.Sections.{Going, going_at, Row, RowTold, going_row, going_more}
 use Rattle.sheet_fields.specs.Answers.{field}
 
 -- A FIELD'S LINE, whose key and name stand
@@ -66,28 +65,25 @@ module _ (used : List Name) (full : Bool) (t : List ℕ) (o : Result (Option (Ta
 
 pub ruleset lining = (field_open, field_closed)
 
--- THE SECTION: all that is read with the fields, and where their section stands
-abbrev whole : List ℕ → Result Above Wrong → Got M.Heads
-whole s before = after (so_far s before) field_lines
+-- THE SECTION: all that is read with the fields behind what was read before, and where their section stands
+abbrev whole : List ℕ → Above → Got M.Heads
+whole s before = field_lines (heads_of before.heads) before.line (drop before.at s)
 
-pub record Fields (s : List ℕ) (before : Result Above Wrong) (a : Above) : Type 0 where
+pub record Fields (s : List ℕ) (before : Above) (a : Above) : Type 0 where
   pub small : length s < 2 ^ 64
   pub going : Going (text "field=") field_row field_limit (λ hd. length hd.fields) NoEvents s (whole s before) a
 
 none_yet : (hd : M.Heads) → NoFields hd → field_limit - length hd.fields ≡ field_limit
 none_yet hd h = rw h.0
 
-pub fields_start : (s : List ℕ) (before : Result Above Wrong) (a : Above) → before ≡ Ok a → Started NoFields s before → length s < 2 ^ 64 → Fields s before a
-fields_start s before a is started small =
+pub fields_start : (s : List ℕ) (before : Above) → Reached NoFields s before → length s < 2 ^ 64 → Fields s before before
+fields_start s before reached small =
     record {
       small = small;
       going =
-          going_start {key = text "field="} {row = field_row} {limit = field_limit} {size = λ hd. length hd.fields} {P = NoFields} {Q = NoEvents} field_lines a
-          (λ hd h. (h.1, h.2, h.3)) (λ hd h l t. rw (none_yet hd h)) before is started;
+          going_at {key = text "field="} {row = field_row} {limit = field_limit} {size = λ hd. length hd.fields} {P = NoFields} {Q = NoEvents} field_lines
+          before (λ hd h. (h.1, h.2, h.3)) (λ hd h l t. rw (none_yet hd h)) reached;
     }
-
-pub fields_handed : (s : List ℕ) (before : Result Above Wrong) (w : Wrong) → before ≡ Err w → Err w ≡ as_above s (whole s before)
-fields_handed s before = read_handed s before field_lines
 
 abbrev Again : Name → ℕ → Type 0
 Again w n = name_of (kept w) ≡ w
@@ -107,7 +103,7 @@ heads_field : (hd : M.Heads) (w : Name) (h : Heads) → h ≡ as_heads hd → (n
 unfolding as_heads statuses
 heads_field hd w h is ns e = rw (e, is, length-append hd.fields (w ∷ []))
 
-module _ (s : List ℕ) (before : Result Above Wrong) (a : Above) (i : Fields s before a) where
+module _ (s : List ℕ) (before : Above) (a : Above) (i : Fields s before a) where
   abbrev h : Heads
   h = a.heads
 
@@ -179,4 +175,4 @@ module _ (s : List ℕ) (before : Result Above Wrong) (a : Above) (i : Fields s 
                 });
           }
 
-pub ruleset fielding = (fields_start, fields_handed, fields_wrong, fields_over, fields_at, fields_number, fields_less, fields_put, fields_more)
+pub ruleset fielding = (fields_start, fields_wrong, fields_over, fields_at, fields_number, fields_less, fields_put, fields_more)

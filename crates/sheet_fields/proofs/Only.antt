@@ -6,5 +6,6 @@ use Rattle.sheet_fields.proofs.read_fields.Reads as ReadFields
 pub read_model_only : Determines ReadModel.Learnt
 read_model_only κs a r q s t = only
 
-pub read_fields_only : Determines ReadFields.Learnt
-read_fields_only κs a r q s t = only
+-- whatever a refusal is told by
+pub read_fields_only : (W : _) (L : _) (G : _) (D : _) → Determines (ReadFields.Learnt W L G D)
+read_fields_only W L G D κs a r q s t = only

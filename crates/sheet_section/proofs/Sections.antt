@@ -10,21 +10,22 @@ use lib.Dec.{leb}
 use lib.ListN.{length, drop, length-drop}
 use lib.Seq.{drop-drop}
 use Rattle.std.specs.Prelude.{Result, Ok, Err, Option, Some, None}
-use Rattle.std.proofs.lemmas.Result.{IfOk-at_ok}
 use Rattle.meaning.specs.Text.{begins}
 use Rattle.meaning.specs.Refusal.{FULL}
-use Rattle.meaning.specs.Reading.{Got, wrong, Reader, after, give}
+use Rattle.meaning.specs.Reading.{Got, got, wrong, Reader, after, give}
 use Rattle.meaning.specs.Name.{Name}
 use Rattle.meaning.specs.Sheet as M
 use Rattle.meaning.specs.Sheet.{all_names}
 use Rattle.meaning.specs.ReadSheet.{section}
 use Rattle.theory.specs.Reading.Answered.{Ends, Left, left_at, left_got, left_wrong}
+use Rattle.theory.specs.Reading.Built.{Built}
+use Rattle.theory.specs.Reading.Faults.{Faulty, built_faulty}
 use Rattle.theory.specs.Reading.Piece.{piece_took, piece_refuses}
 use Rattle.theory.specs.Reading.Sections.{section_over, section_full, section_begun}
 use Rattle.reply.specs.declared.Fault.{Fault}
 use Rattle.reply.specs.declared.Wrong.{Wrong}
 use Rattle.reply.specs.Faults.{fault_of}
-use Rattle.reply.proofs.Faults.{fault_again}
+use Rattle.reply.proofs.Faults.{number_again}
 use Rattle.text.specs.declared.Taken.{Taken}
 use Rattle.text.specs.Pieces.{as_taken}
 use Rattle.text.proofs.Callers.{begins_fits}
@@ -35,8 +36,8 @@ use Rattle.name.proofs.Tables.{again_more}
 use Rattle.sheet_tables.specs.Heads.{as_heads, heads_of}
 use Rattle.sheet_tables.proofs.Tables.{heads_again}
 use Rattle.sheet_section.specs.declared.Above.{Above}
-use Rattle.sheet_section.specs.Answers.{as_above, keyed, as_row, so_far}
-use Rattle.sheet_section.specs.Held.{Plain, Reached, Started}
+use Rattle.sheet_section.specs.Answers.{as_above_by, as_above, as_told, keyed, as_row, so_far_by}
+use Rattle.sheet_section.specs.Held.{Plain, Reached}
 use Rattle.sheet_section.proofs.Rows.{Few, few_rows, plain_well, names_stored}
 
 -- ANSWERS
@@ -47,10 +48,16 @@ read_got {s = s} a is left =
     let back : length s - (length s - a.at) ≡ a.at = omega (arith, left.within) in
     rw (left.is, ← is, length-drop a.at s, back)
 
--- a refusal of what was read before is handed on
-pub read_handed : (s : List ℕ) (before : Result Above Wrong) (f : M.Heads → Reader M.Heads) (w : Wrong) → before ≡ Err w
-    → Err w ≡ as_above s (after (so_far s before) f)
-read_handed s before f w e = rw (e, fault_again w.fault)
+-- whatever a refusal is told by: the answer r of a section behind what was read before
+pub read_told : {W : Type 0} {f : M.Heads → Reader M.Heads} (built : (hd : M.Heads) → Built (f hd)) (of : ℕ → ℕ → W) (number line : W → ℕ) (s : List ℕ)
+    (before : Result Above W) (a : Above) → before ≡ Ok a → (r : Result Above Wrong) → r ≡ as_above s (f (heads_of a.heads) a.line (drop a.at s))
+    → (v : Result Above W) → v ≡ as_told of r → v ≡ as_above_by of s (after (so_far_by number line s before) f)
+read_told {f = f} built of number line s before a is r e v z =
+    rw (is, z, e) (go (f (heads_of a.heads) a.line (drop a.at s)) (built_faulty (built (heads_of a.heads)) a.line (drop a.at s)))
+  where
+    go : (x : Got M.Heads) → Faulty x → as_told of (as_above s x) ≡ as_above_by of s x
+    go (got hd l t) h = refl
+    go (wrong n l) h = rw (number_again n (omega (arith, h)) (omega (arith, h)))
 
 -- WHERE A SECTION STANDS
 
@@ -69,7 +76,7 @@ module _ (key : List ℕ) (row : M.Heads → Reader M.Heads) (limit : ℕ) (size
 module _ {key : List ℕ} {row : M.Heads → Reader M.Heads} {limit : ℕ} {size : M.Heads → ℕ} {P Q : M.Heads → Type 0} {s : List ℕ} (f : M.Heads → Reader M.Heads)
     (a : Above) (late : (hd : M.Heads) → P hd → Q hd)
     (same : (hd : M.Heads) → P hd → (l : ℕ) (t : List ℕ) → f hd l t ≡ section key row (limit - size hd) hd l t) where
-  going_at : Reached P s a → Going key row limit size Q s (f (heads_of a.heads) a.line (drop a.at s)) a
+  pub going_at : Reached P s a → Going key row limit size Q s (f (heads_of a.heads) a.line (drop a.at s)) a
   going_at c =
       let plain = plain_well c.sheet c.well in
       let again : heads_of a.heads ≡ c.sheet = ap heads_of c.heads ∙ heads_again c.sheet c.well in
@@ -82,9 +89,6 @@ module _ {key : List ℕ} {row : M.Heads → Reader M.Heads} {limit : ℕ} {size
         lines = c.lines;
         left = record { within = c.within; is = rw (again, same c.sheet c.late a.line (drop a.at s)) };
       }
-
-  pub going_start : (before : Result Above Wrong) → before ≡ Ok a → Started P s before → Going key row limit size Q s (after (so_far s before) f) a
-  going_start before is started = rw is (going_at (IfOk-at_ok (Reached P s) is started))
 
 module _ {key : List ℕ} {row : M.Heads → Reader M.Heads} {limit : ℕ} {size : M.Heads → ℕ} {Q : M.Heads → Type 0} {s : List ℕ} {x : Got M.Heads} {a : Above}
     (i : Going key row limit size Q s x a) where

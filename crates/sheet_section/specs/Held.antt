@@ -5,7 +5,6 @@ use Rattle.meaning.specs.Limits.{field_limit, event_limit, status_limit}
 use Rattle.meaning.specs.Sheet.{Heads, Event, all_names}
 use Rattle.theory.specs.Papers.Formed.{WellHeads}
 use Rattle.theory.specs.Lists.Padded.{padded}
-use Rattle.reply.specs.declared.Wrong.{Wrong}
 use Rattle.name.specs.Names.{Again}
 use Rattle.sheet_tables.specs.Heads.{as_heads}
 use Rattle.sheet_section.specs.declared.Above.{Above}
@@ -31,6 +30,6 @@ pub record Reached (Q : Heads → Type 0) (s : List ℕ) (a : Above) : Type 0 wh
   pub within : a.at ≤ length s
   pub lines : a.line ≤ a.at
 
--- where a section begins: the sheet come to, or a refusal
-abbrev pub Started : (Heads → Type 0) → List ℕ → Result Above Wrong → Type 0
+-- where a section begins: the sheet come to, or a refusal, whatever it is told by
+abbrev pub Started : {W : Type 0} → (Heads → Type 0) → List ℕ → Result Above W → Type 0
 Started Q s before = IfOk before (Reached Q s)

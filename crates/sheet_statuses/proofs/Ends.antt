@@ -96,12 +96,12 @@ under_is : (ns : List Name) (l : ℕ) (t : List ℕ) → under ns l t ≡ after 
 unfolding under over
 under_is ns l t = simp after_after
 
-pub under_ends : (ns : List Name) (t : List ℕ) → Ends suc (λ o n. under_code o ≤ length ns) (under ns) t
-under_ends ns t = go (ends_after (λ o n. under_code o ≤ length ns) (λ o. closing (give o)) (over_ends ns t) λ o n h.
-    ends_map {Q = λ o n. under_code o ≤ length ns} (λ _. o) (λ u k e. h) (line_ends line_fault (drop n t)))
+pub under_ends : (ns : List Name) (t : List ℕ) → Ends suc (λ o n. (under_code o ≤ length ns) × (1 ≤ n)) (under ns) t
+under_ends ns t = go (ends_after (λ o n. (under_code o ≤ length ns) × (1 ≤ n)) (λ o. closing (give o)) (over_ends ns t) λ o n h.
+    ends_map {Q = λ o k. (under_code o ≤ length ns) × (1 ≤ n + k)} (λ _. o) (λ u k e. (h, omega arith)) (line_ends line_fault (drop n t)))
   where
-    go : Ends suc (λ o n. under_code o ≤ length ns) (λ l t. after (over ns l t) (λ o. closing (give o))) t
-        → Ends suc (λ o n. under_code o ≤ length ns) (under ns) t
+    go : Ends suc (λ o n. (under_code o ≤ length ns) × (1 ≤ n)) (λ l t. after (over ns l t) (λ o. closing (give o))) t
+        → Ends suc (λ o n. (under_code o ≤ length ns) × (1 ≤ n)) (under ns) t
     go (Ends.found o n p m e) = Ends.found o n p m (λ l. under_is ns l t ∙ e l)
     go (Ends.faulty k e) = Ends.faulty k (λ l. under_is ns l t ∙ e l)
 

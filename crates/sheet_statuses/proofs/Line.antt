@@ -56,7 +56,8 @@ module _ (key : List ℕ) (full : Bool) (used names : List Name) (from to k : �
   line_wrong e z = line_off as_status key full used (ending ns) t named e (piece_off as_stage fault_of (under_ends ns) made named.left u behind p answer e z)
 
   module _ (v : Taken ℕ) (z : p ≡ Ok v) where
-    taken : Next as_stage (λ o n. under_code o ≤ length ns) (Rattle.sheet_section.proofs.Named.whole as_status key full used (ending ns) t) made 1 w.bytes t v
+    taken : Next as_stage (λ o n. (under_code o ≤ length ns) × (1 ≤ n))
+        (Rattle.sheet_section.proofs.Named.whole as_status key full used (ending ns) t) made 1 w.bytes t v
     taken = piece_on as_stage fault_of (under_ends ns) made named.left u behind p answer v z
 
     sum : w.bytes + v.bytes ≡ w.bytes + taken.bytes
@@ -80,4 +81,4 @@ Known most x n = (name_of (kept x.name) ≡ x.name) × (under_code x.under ≤ m
 pub status_ends : (used ns : List Name) (u : List ℕ) → Ends suc (Known (length ns)) (status used ns) u
 status_ends used ns u =
     ends_after (Known (length ns)) _ (shown_ends (new_shows used) u) λ w n h.
-    ends_map {Q = Known (length ns)} (λ o. record { name = w; under = o }) (λ o k few. (good_again w h.0, few)) (under_ends ns (drop n u))
+    ends_map {Q = Known (length ns)} (λ o. record { name = w; under = o }) (λ o k few. (good_again w h.0, few.0)) (under_ends ns (drop n u))

@@ -21,29 +21,28 @@ use Rattle.theory.specs.Reading.Readers.{after_after}
 use Rattle.theory.specs.Papers.Formed.{names_stage, names_mile}
 use Rattle.limits.specs.Sizes.{name_room}
 use Rattle.reply.specs.declared.Fault.{Fault}
-use Rattle.reply.specs.declared.Wrong.{Wrong}
 use Rattle.text.specs.declared.Taken.{Taken}
 use Rattle.name.specs.Names.{kept, names_in, put_in, Again}
 use Rattle.sheet_tables.specs.declared.Heads.{Heads}
-use Rattle.sheet_tables.specs.Heads.{as_heads, under_code}
+use Rattle.sheet_tables.specs.Heads.{as_heads, heads_of, under_code}
 use Rattle.sheet_section.specs.declared.Above.{Above}
-use Rattle.sheet_section.specs.Answers.{as_above, as_row, so_far}
-use Rattle.sheet_section.specs.Held.{Plain, Started}
+use Rattle.sheet_section.specs.Answers.{as_above, as_row}
+use Rattle.sheet_section.specs.Held.{Plain, Reached}
 use Rattle.sheet_section.proofs.Rows.{tabled, counted, names_so_far, stages_known}
-use Rattle.sheet_section.proofs.Sections.{read_handed, Going, going_start, Row, RowTold, going_row, going_more}
+use Rattle.sheet_section.proofs.Sections.{Going, going_at, Row, RowTold, going_row, going_more}
 use Rattle.sheet_statuses.specs.declared.Status.{Status}
 use Rattle.sheet_statuses.specs.Answers.{as_status, status, status_key, with_status, lines_of, Before, Behind}
 use Rattle.sheet_statuses.proofs.Line.{Known, status_ends}
 
 -- all that is read with them, and their rows
-abbrev whole : Bool → List ℕ → Result Above Wrong → Got M.Heads
-whole miles s before = after (so_far s before) (lines_of miles)
+abbrev whole : Bool → List ℕ → Above → Got M.Heads
+whole miles s before = lines_of miles (heads_of before.heads) before.line (drop before.at s)
 
 abbrev row_of : Bool → M.Heads → Reader M.Heads
 row_of miles hd = R.status hd >>= λ x. give (with_status miles hd x)
 
 -- WHERE THE SECTION STANDS
-pub record Statuses (s key : List ℕ) (before : Result Above Wrong) (miles : Bool) (a : Above) : Type 0 where
+pub record Statuses (s key : List ℕ) (before : Above) (miles : Bool) (a : Above) : Type 0 where
   pub small : length s < 2 ^ 64
   pub key_is : key ≡ status_key miles
   pub going : Going (status_key miles) (row_of miles) status_limit (λ hd. length (statuses hd)) (Behind miles) s (whole miles s before) a
@@ -53,19 +52,16 @@ behind_is : (miles : Bool) (hd : M.Heads) → Before miles hd → Behind miles h
 behind_is false hd late = late.1
 behind_is true hd late = tt
 
-pub statuses_start : (s key : List ℕ) (before : Result Above Wrong) (miles : Bool) (a : Above) → key ≡ status_key miles → before ≡ Ok a
-    → Started (Before miles) s before → length s < 2 ^ 64 → Statuses s key before miles a
-statuses_start s key before miles a k is started small =
+pub statuses_start : (s key : List ℕ) (before : Above) (miles : Bool) → key ≡ status_key miles → Reached (Before miles) s before → length s < 2 ^ 64
+    → Statuses s key before miles before
+statuses_start s key before miles k reached small =
     record {
       small = small;
       key_is = k;
       going =
-          going_start {key = status_key miles} {row = row_of miles} {limit = status_limit} {size = λ hd. length (statuses hd)} {P = Before miles}
-          {Q = Behind miles} (lines_of miles) a (behind_is miles) (λ hd h l t. refl) before is started;
+          going_at {key = status_key miles} {row = row_of miles} {limit = status_limit} {size = λ hd. length (statuses hd)} {P = Before miles}
+          {Q = Behind miles} (lines_of miles) before (behind_is miles) (λ hd h l t. refl) reached;
     }
-
-pub statuses_handed : (s : List ℕ) (before : Result Above Wrong) (miles : Bool) (w : Wrong) → before ≡ Err w → Err w ≡ as_above s (whole miles s before)
-statuses_handed s before miles = read_handed s before (lines_of miles)
 
 rows : (miles : Bool) (hd : M.Heads) (g : M.Heads → Reader M.Heads) (l : ℕ) (t : List ℕ)
     → after (row_of miles hd l t) g ≡ after (status (all_names hd) (status_names hd.stages) l t) (λ x. g (with_status miles hd x))
@@ -138,7 +134,7 @@ module _ (hd : M.Heads) (a : M.Status) where
       rw (e, is, y, z, under_is, x-is ∙ sym size, set_more (omega (arith, size)), ← statuses_row true late, ← (counts_row true).0, ← (counts_row true).1)
 
 -- THE WAYS ON
-module _ (s key : List ℕ) (before : Result Above Wrong) (miles : Bool) (a : Above) (i : Statuses s key before miles a) where
+module _ (s key : List ℕ) (before : Above) (miles : Bool) (a : Above) (i : Statuses s key before miles a) where
   abbrev h : Heads
   h = a.heads
 
@@ -274,7 +270,6 @@ module _ (s key : List ℕ) (before : Result Above Wrong) (miles : Bool) (a : Ab
 
 pub ruleset statusing = (
   statuses_start,
-  statuses_handed,
   statuses_fields,
   statuses_events,
   statuses_few,

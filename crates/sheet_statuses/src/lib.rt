@@ -7,12 +7,13 @@ ghost use Rattle.meaning.specs.Reading.{after};
 ghost use Rattle.meaning.specs.ReadSheet.{under, stage_lines, mile_lines};
 ghost use Rattle.theory.specs.Papers.Formed.{NoStages, NoMiles};
 ghost use Rattle.name.specs.Names.{names_in};
-ghost use Rattle.sheet_section.specs.Answers.{as_above, as_row, so_far};
-ghost use Rattle.sheet_section.specs.Held.{Started};
+ghost use Rattle.sheet_tables.specs.Heads.{heads_of};
+ghost use Rattle.sheet_section.specs.Answers.{as_above_by, as_above, as_row, so_far_by};
+ghost use Rattle.sheet_section.specs.Held.{Started, Reached};
 ghost use Rattle.sheet_statuses.specs.Answers.{as_under, as_status, over, status, status_key, lines_of, Before};
 
 use name::Name;
-use reply::{Fault, Wrong};
+use reply::{Fault, ToldAt, Wrong};
 use sheet_section::Above;
 use sheet_tables::Heads;
 use text::Taken;
@@ -76,19 +77,14 @@ fn status_row(t: &[u8], key: &[u8], heads: &Heads) -> Result<Option<Taken<Status
     }))
 }
 
-// The stages, or the miles, with their key.
-fn read_statuses(
-    s: &[u8],
-    before: Result<Above, Wrong>,
-    key: &[u8],
-    miles: bool,
-) -> Result<Above, Wrong>
+// The stages, or the miles, with their key, behind what was read before.
+fn read_statuses(s: &[u8], before: Above, key: &[u8], miles: bool) -> Result<Above, Wrong>
     requires key { key.now ≡ status_key miles }
-    requires before { Started (Before miles) s.now before }
-    ensures { result ≡ as_above s.now (after (so_far s.now before) (lines_of miles)) }
+    requires before { Reached (Before miles) s.now before }
+    ensures { result ≡ as_above s.now (lines_of miles (heads_of before.heads) before.line (drop before.at s.now)) }
 {
     // Stays: each section has its loop; said once it would take two closures, one that reads a row from the tables and one that puts it into them, no plainer.
-    let mut above = before?;
+    let mut above = before;
     'lines: loop {
         let line = above.line;
         let x = above.heads.stages + above.heads.miles;
@@ -110,17 +106,23 @@ fn read_statuses(
 }
 
 // The stage lines, from where the sheet is read to.
-pub fn read_stages(s: &[u8], before: Result<Above, Wrong>) -> Result<Above, Wrong>
+pub fn read_stages<W: ToldAt>(s: &[u8], before: Result<Above, W>) -> Result<Above, W>
     requires { Started NoStages s.now before }
-    ensures { result ≡ as_above s.now (after (so_far s.now before) stage_lines) }
+    ensures { result ≡ as_above_by W.with_number s.now (after (so_far_by W.number W.line s.now before) stage_lines) }
 {
-    read_statuses(s, before, b"stage=", false)
+    match before {
+        Ok(above) => sheet_section::as_told(read_statuses(s, above, b"stage=", false)),
+        Err(refusal) => Err(refusal),
+    }
 }
 
 // The mile lines, from where the sheet is read to.
-pub fn read_miles(s: &[u8], before: Result<Above, Wrong>) -> Result<Above, Wrong>
+pub fn read_miles<W: ToldAt>(s: &[u8], before: Result<Above, W>) -> Result<Above, W>
     requires { Started NoMiles s.now before }
-    ensures { result ≡ as_above s.now (after (so_far s.now before) mile_lines) }
+    ensures { result ≡ as_above_by W.with_number s.now (after (so_far_by W.number W.line s.now before) mile_lines) }
 {
-    read_statuses(s, before, b"mile=", true)
+    match before {
+        Ok(above) => sheet_section::as_told(read_statuses(s, above, b"mile=", true)),
+        Err(refusal) => Err(refusal),
+    }
 }

@@ -68,7 +68,7 @@ pub fn no_heads() -> Heads
     }
 }
 
-// The rules of a refused sheet: a blank table.
+// No rules yet: a blank table, with which reading begins.
 pub fn no_rules() -> Rules
     ensures { result ≡ as_rules [] }
 {

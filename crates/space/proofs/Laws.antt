@@ -1,16 +1,33 @@
 -- Numbers, counts and single lines put into lent space, in the form in which the functions' answers need them.
 use mathlib.Core.Path.{◌≡◌, refl, ap, sym}
+use mathlib.Core.Bool.{Bool, true, false}
 use mathlib.Core.List.{List, [], ◌∷◌, ◌++◌}
 use Prim.Native.Nat.{ℕ, zero, suc, ◌+◌, ◌-◌, ◌/◌, ◌%◌, ◌<◌, ◌≤◌}
 use native.Mathlib.Omega.{arith}
+use native.Mathlib.Numerals.{add-one}
 use borrow.Author.Tests.{lt-ltb, le-ltb}
-use lib.ListN.{length, length-append}
+use lib.ListN.{length, drop, get_or, length-append, drop_of_length-le}
+use lib.Seq.{drop-cons}
 use Rattle.meaning.specs.Text.{text}
 use Rattle.meaning.specs.Number.{decimal, written_in}
-use Rattle.meaning.specs.Write.{line}
+use Rattle.meaning.specs.Write.{line, mark}
 use Rattle.theory.specs.Papers.Counts.{decimal_one}
 use Rattle.theory.specs.Writing.ReadBack.{line_length_lem}
-use Rattle.theory.specs.Writing.Lent.{Wrote, wrote_room, wrote_both, wrote_none, first_room, second_room, both_written}
+use Rattle.name.specs.Names.{spell_room}
+use Rattle.theory.specs.Writing.Lent.{Wrote, wrote_room, wrote_both, wrote_none, Left, left_start, left_end, left_room, left_more, left_long, first_room, second_room, both_written}
+
+-- a text
+module _ (at₀ : ℕ) (w o₀ : List ℕ) (at i : ℕ) (o : List ℕ) (l : Left at₀ w o₀ at (drop i w) o) where
+  pub text_room : i < length w → at + 1 ≤ length o
+  text_room h = left_room at₀ w o₀ at (drop i w) o l (get_or w i 0 ∷ []) (drop (suc i) w) (drop-cons w i 0 h)
+
+  pub text_more : i < length w → (o1 : List ℕ) (b : ℕ) → Wrote at (get_or w i 0 ∷ []) o o1 b → (j : ℕ) → j ≡ i + 1 → Left at₀ w o₀ b (drop j w) o1
+  text_more h o1 b v j z = rw (z, add-one) (left_more at₀ w o₀ at (drop i w) o l (get_or w i 0 ∷ []) (drop (suc i) w) (drop-cons w i 0 h) o1 b v)
+
+  pub text_end : length w ≤ i → Wrote at₀ w o₀ o at
+  text_end h = left_end at₀ w o₀ at (drop i w) o l (drop_of_length-le w h)
+
+pub ruleset texting = (left_start, text_room, text_more, text_end, left_long)
 
 -- NUMBERS
 
@@ -85,40 +102,58 @@ pub ruleset counting = (count_one, count_two)
 
 -- LINES
 
--- the four pieces of a line
+-- the four pieces of a line; there is room for each, whatever byte stands for the sign
 module _ (at : ℕ) (k v o : List ℕ) (fits : at + length (line k v) ≤ length o) where
   pub line_key : at + length k ≤ length o
   line_key = omega (arith, line_length_lem k v)
 
   module _ (o1 : List ℕ) (a : ℕ) (y : Wrote at k o o1 a) where
-    whole_1 : at + length (k ++ text "=") ≤ length o
-    whole_1 = simp length-append (omega (arith, line_length_lem k v))
+    whole_1 : (s : ℕ) → at + length (k ++ (s ∷ [])) ≤ length o
+    whole_1 s = simp length-append (omega (arith, line_length_lem k v))
 
     pub line_sign : a + 1 ≤ length o1
-    line_sign = wrote_room at k (text "=") o o1 a whole_1 y
+    line_sign = wrote_room at k (text "=") o o1 a (whole_1 61) y
 
-    module _ (o2 : List ℕ) (b : ℕ) (z : Wrote a (61 ∷ []) o1 o2 b) where
-      whole_2 : at + length (k ++ text "=" ++ v) ≤ length o
+    module _ (o2 : List ℕ) (b s : ℕ) (z : Wrote a (s ∷ []) o1 o2 b) where
+      whole_2 : at + length (k ++ (s ∷ []) ++ v) ≤ length o
       whole_2 = simp length-append (omega (arith, line_length_lem k v))
 
-      keyed_2 : Wrote at (k ++ text "=") o o2 b
-      keyed_2 = wrote_both at k (text "=") o o1 a whole_1 y o2 b z
+      keyed_2 : Wrote at (k ++ (s ∷ [])) o o2 b
+      keyed_2 = wrote_both at k (s ∷ []) o o1 a (whole_1 s) y o2 b z
 
       pub line_value : b + length v ≤ length o2
-      line_value = wrote_room at (k ++ text "=") v o o2 b whole_2 keyed_2
+      line_value = wrote_room at (k ++ (s ∷ [])) v o o2 b whole_2 keyed_2
 
       module _ (o3 : List ℕ) (c : ℕ) (x : Wrote b v o2 o3 c) where
-        whole_3 : at + length (k ++ text "=" ++ v ++ text "\n") ≤ length o
+        whole_3 : at + length (k ++ (s ∷ []) ++ v ++ text "\n") ≤ length o
         whole_3 = simp length-append (omega (arith, line_length_lem k v))
 
-        keyed_3 : Wrote at (k ++ text "=" ++ v) o o3 c
-        keyed_3 = wrote_both at (k ++ text "=") v o o2 b whole_2 keyed_2 o3 c x
+        keyed_3 : Wrote at (k ++ (s ∷ []) ++ v) o o3 c
+        keyed_3 = wrote_both at (k ++ (s ∷ [])) v o o2 b whole_2 keyed_2 o3 c x
 
         pub line_feed : c + 1 ≤ length o3
-        line_feed = wrote_room at (k ++ text "=" ++ v) (text "\n") o o3 c whole_3 keyed_3
+        line_feed = wrote_room at (k ++ (s ∷ []) ++ v) (text "\n") o o3 c whole_3 keyed_3
 
-        pub line_done : (o4 : List ℕ) (d : ℕ) → Wrote c (10 ∷ []) o3 o4 d → Wrote at (line k v) o o4 d
+        pub line_done : s ≡ 61 → (o4 : List ℕ) (d : ℕ) → Wrote c (10 ∷ []) o3 o4 d → Wrote at (line k v) o o4 d
         unfolding line
-        line_done o4 d u = wrote_both at (k ++ text "=" ++ v) (text "\n") o o3 c whole_3 keyed_3 o4 d u
+        line_done e o4 d u = rw e at (wrote_both at (k ++ (s ∷ []) ++ v) (text "\n") o o3 c whole_3 keyed_3 o4 d u)
 
 pub ruleset lining = (line_key, line_sign, line_value, line_feed, line_done)
+
+-- the line of a status: a name of n bytes, and the word of its mark
+module _ (w v : List ℕ) (b : Bool) (word : v ≡ mark b) where
+  word_short : length v ≤ 3
+  word_short = rw word (go b)
+    where
+      go : (b : Bool) → length (mark b) ≤ 3
+      go true = omega arith
+      go false = omega arith
+
+  module _ (n : ℕ) (long : n ≡ length w) (r : ℕ) (sum : r ≡ n + length v + 2) where
+    pub mark_long : r ≡ length (line w (mark b))
+    mark_long = omega (arith, ap length word, line_length_lem w (mark b))
+
+    pub mark_bound : n ≤ spell_room → r ≤ spell_room + 5
+    mark_bound few = omega (arith, word_short)
+
+pub ruleset marking = (mark_long, mark_bound)

@@ -1,17 +1,22 @@
 -- No second answer fits: the contracts determine the length of a text that is measured, and where a text that is put ends, with the lent space.
 use Rattle.theory.specs.Determined.{Determines, Settles, only}
 use Rattle.space.proofs.count_len.Reads as CountLen
+use Rattle.space.proofs.mark_len.Reads as MarkLen
 use Rattle.space.proofs.put_byte.Reads as PutByte
 use Rattle.space.proofs.put_text.Reads as PutText
 use Rattle.space.proofs.put_number.Reads as PutNumber
 use Rattle.space.proofs.put_line.Reads as PutLine
 use Rattle.space.proofs.line_at.Reads as LineAt
 use Rattle.space.proofs.mark_word.Reads as MarkWord
+use Rattle.space.proofs.mark_at.Reads as MarkAt
 use Rattle.space.proofs.put_case.Reads as PutCase
 use Rattle.space.proofs.put_end.Reads as PutEnd
 
 pub count_len_only : Determines CountLen.Learnt
 count_len_only κs a r q s t h g = only h.0 g.0
+
+pub mark_len_only : Determines MarkLen.Learnt
+mark_len_only κs a r q s t h g = only h.0 g.0
 
 -- what the word is
 pub mark_word_only : Settles MarkWord.Learnt (λ κs r s. r.now)
@@ -49,6 +54,12 @@ line_at_only κs a r q s t h g = only h.next g.next
 
 pub line_at_space_only : Settles LineAt.Learnt (λ κs r s. s.0.now)
 line_at_space_only κs a r q s t h g = only h.space g.space
+
+pub mark_at_only : Determines MarkAt.Learnt
+mark_at_only κs a r q s t h g = only h.next g.next
+
+pub mark_at_space_only : Settles MarkAt.Learnt (λ κs r s. s.0.now)
+mark_at_space_only κs a r q s t h g = only h.space g.space
 
 pub put_case_only : Determines PutCase.Learnt
 put_case_only κs a r q s t h g = only h.next g.next

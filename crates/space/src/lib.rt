@@ -6,7 +6,7 @@ ghost use Rattle.meaning.specs.Text.{text};
 ghost use Rattle.meaning.specs.Number.{decimal, written_in};
 ghost use Rattle.meaning.specs.Write.{line, mark};
 ghost use Rattle.theory.specs.Writing.Lent.{Wrote};
-ghost use Rattle.name.specs.Names.{name_of};
+ghost use Rattle.name.specs.Names.{name_of, spell_room};
 ghost use Rattle.marks.specs.Codes.{is_yes};
 
 use name::Name;
@@ -58,13 +58,16 @@ pub fn put_byte(out: &mut [u8], at: usize, b: u8) -> usize
 }
 
 // Puts a text at a place of `out`, and tells the place behind it.
+// Stays a loop over bytes: with `copy_from_slice` the archive for C would ask its callers for `memmove` too.
 pub fn put_text(out: &mut [u8], at: usize, w: &[u8]) -> usize
     requires { at + length w.now ≤ length out.old }
     ensures { Wrote at w.now out.old out.new result }
 {
-    let end = at + w.len();
-    out[at..end].copy_from_slice(w);
-    end
+    let mut to = at;
+    for i in 0..w.len() {
+        to = put_byte(out, to, w[i]);
+    }
+    to
 }
 
 // Puts a number of at most `left` digits: those before the last one first.
@@ -101,19 +104,29 @@ pub fn count_len(n: usize) -> usize
     if n < 10 { 1 } else { 2 }
 }
 
-// Puts the line of a key and a value at a place of `out`, and tells the place behind it.
+// Puts the line of a key and a value at the start of `out`.
 #[tactic(auto, using(crate::proofs::Laws::lining))]
-pub fn put_line<K: Piece, V: Piece>(out: &mut [u8], at: usize, k: K, v: V) -> usize
-    requires { at + length (line (K.written k) (V.written v)) ≤ length out.old }
-    ensures { Wrote at (line (K.written k) (V.written v)) out.old out.new result }
+fn line_here<K: Piece, V: Piece>(out: &mut [u8], k: K, v: V) -> usize
+    requires { 0 + length (line (K.written k) (V.written v)) ≤ length out.old }
+    ensures { Wrote 0 (line (K.written k) (V.written v)) out.old out.new result }
 {
-    let a = k.put(out, at);
+    let a = k.put(out, 0);
     let b = put_byte(out, a, b'=');
     let c = v.put(out, b);
     put_byte(out, c, b'\n')
 }
 
-// Puts the line of a name and a value at a place of `out`, and tells the place behind it.
+// Puts the line of a key and a value at a place of `out`, and tells the place behind it: the rest of the space from there on is lent on.
+#[tactic(auto, using(theory::specs::Writing::Lent::part_back))]
+pub fn put_line<K: Piece, V: Piece>(out: &mut [u8], at: usize, k: K, v: V) -> usize
+    requires { at + length (line (K.written k) (V.written v)) ≤ length out.old }
+    ensures { Wrote at (line (K.written k) (V.written v)) out.old out.new result }
+{
+    let n = line_here(&mut out[at..], k, v);
+    at + n
+}
+
+// Puts the line of a name and a value at a place of `out`, and tells the place behind it: the rest of the space from there on is lent on.
 pub fn line_at(out: &mut [u8], at: usize, w: Name, v: &[u8]) -> usize
     requires { at + length (line (name_of w) v.now) ≤ length out.old }
     ensures { Wrote at (line (name_of w) v.now) out.old out.new result }
@@ -126,6 +139,22 @@ pub fn mark_word(m: u8) -> &'static [u8]
     ensures { result.now ≡ mark (is_yes m) }
 {
     if m == marks::YES { b"yes" } else { b"no" }
+}
+
+// Puts the line of a status at a place of `out`, and tells the place behind it.
+pub fn mark_at(out: &mut [u8], at: usize, w: Name, m: u8) -> usize
+    requires { at + length (line (name_of w) (mark (is_yes m))) ≤ length out.old }
+    ensures { Wrote at (line (name_of w) (mark (is_yes m))) out.old out.new result }
+{
+    line_at(out, at, w, mark_word(m))
+}
+
+// How long the line of a status is.
+#[tactic(auto, using(crate::proofs::Laws::marking))]
+pub fn mark_len(w: Name, m: u8) -> usize
+    ensures { (result ≡ length (line (name_of w) (mark (is_yes m)))) × (result ≤ spell_room + 5) }
+{
+    name::name_len(w) + mark_word(m).len() + 2
 }
 
 // Puts the first line of a card, `case=` and the model's name, at the start of `out`.
@@ -142,4 +171,29 @@ pub fn put_end(out: &mut [u8], at: usize, n: usize) -> usize
     ensures { Wrote at (line (text "end") (decimal n)) out.old out.new result }
 {
     put_line(out, at, &b"end"[..], n as u64)
+}
+
+#[cfg(test)]
+mod tests {
+    use super::*;
+    use std::test::Fail;
+
+    // The line of a status stands as on a card, is as long as told, and what is around it stays.
+    #[test]
+    fn lines_of_a_status() -> Result<(), Fail> {
+        let Ok(read) = name::name_piece(b"done=") else {
+            return Err(Fail::new("no name"));
+        };
+        for (mark, want) in [
+            (marks::YES, b"..done=yes\n........."),
+            (marks::NO, b"..done=no\n.........."),
+        ] {
+            let mut out = [b'.'; 20];
+            let long = mark_len(read.value, mark);
+            if mark_at(&mut out, 2, read.value, mark) != 2 + long || out != *want {
+                return Err(Fail::new("another line"));
+            }
+        }
+        Ok(())
+    }
 }

@@ -14,15 +14,12 @@ use Rattle.meaning.specs.Reading.{due}
 use Rattle.theory.specs.Papers.Names.{run_more, run_halt}
 use Rattle.theory.specs.Reading.Told.{run_fits, took, begins_fits}
 use Rattle.theory.specs.Reading.Fixed.{due_ended, due_here, due_not}
-use Rattle.reply.specs.declared.Fault.{Fault}
-use Rattle.reply.specs.declared.Fault.TheVariants as F
-use Rattle.reply.specs.Faults.{number_of}
-use Rattle.reply.proofs.Faults.{fault_again}
-use Rattle.std.specs.Prelude.{Ok, Err}
+use Rattle.meaning.specs.Refusal.{LINE}
+use Rattle.std.specs.Prelude.{Result, Ok, Err}
 use Rattle.std.specs.List.{starts_with}
 use Rattle.theory.specs.Lists.Members.{eqb_alike}
 use lib.Dec.{eqb}
-use Rattle.text.specs.Pieces.{as_due, as_length}
+use Rattle.text.specs.Pieces.{as_due, as_length_by}
 
 -- THE LONGEST RUN: a loop at the cursor i
 module _ (p : ℕ → Bool) (s : List ℕ) (i : ℕ) where
@@ -66,14 +63,19 @@ module _ {E : Type 0} (ended other : E) (t k : List ℕ) where
 
 pub ruleset due_or_returns = (or_ended, or_other, or_here)
 
--- as a fault
-pub due_told : (f : Fault) (t k : List ℕ) → as_due F.Line f t (due 0 k 0 t) ≡ as_length t (due (number_of f) k 0 t)
-due_told f [] k = rw (due_ended 0 k 0 [] refl, due_ended (number_of f) k 0 [] refl)
-due_told f (x ∷ s) k = go (begins k (x ∷ s)) refl
-  where
-    some : length (x ∷ s) ≡ 0 → ⊥
-    some h = omega arith
+-- as what a refusal is told by
+module _ {E : Type 0} (of : ℕ → E) where
+  pub due_numbered : (n : ℕ) (t k : List ℕ) → as_due (of LINE) (of n) t (due 0 k 0 t) ≡ as_length_by of t (due n k 0 t)
+  due_numbered n [] k = rw (due_ended 0 k 0 [] refl, due_ended n k 0 [] refl)
+  due_numbered n (x ∷ s) k = go (begins k (x ∷ s)) refl
+    where
+      some : length (x ∷ s) ≡ 0 → ⊥
+      some h = omega arith
 
-    go : (b : Bool) → b ≡ begins k (x ∷ s) → as_due F.Line f (x ∷ s) (due 0 k 0 (x ∷ s)) ≡ as_length (x ∷ s) (due (number_of f) k 0 (x ∷ s))
-    go true e = rw (due_here 0 k 0 (x ∷ s) some true e refl, due_here (number_of f) k 0 (x ∷ s) some true e refl)
-    go false e = rw (due_not 0 k 0 (x ∷ s) some false e refl, due_not (number_of f) k 0 (x ∷ s) some false e refl, fault_again f)
+      go : (b : Bool) → b ≡ begins k (x ∷ s) → as_due (of LINE) (of n) (x ∷ s) (due 0 k 0 (x ∷ s)) ≡ as_length_by of (x ∷ s) (due n k 0 (x ∷ s))
+      go true z = rw (due_here 0 k 0 (x ∷ s) some true z refl, due_here n k 0 (x ∷ s) some true z refl)
+      go false z = rw (due_not 0 k 0 (x ∷ s) some false z refl, due_not n k 0 (x ∷ s) some false z refl)
+
+  pub due_told : (number : E → ℕ) → ((e : E) → of (number e) ≡ e) → (ended e : E) (t k : List ℕ) → ended ≡ of LINE → (r : Result ℕ E)
+      → r ≡ as_due ended e t (due 0 k 0 t) → r ≡ as_length_by of t (due (number e) k 0 t)
+  due_told number again ended e t k is r z = rw (is, ← again e) at z ∙ due_numbered (number e) t k

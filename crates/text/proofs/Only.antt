@@ -12,9 +12,9 @@ starts_only κs a r q s t = only
 pub rest_only : Settles Rest.Learnt (λ κs r s. r.now)
 rest_only κs a r q s t = only
 
-pub due_text_only : Determines DueText.Learnt
-due_text_only κs a r q s t = only
-
 -- at every type
+pub due_text_only : (T : _) (L : _) (C : _) (F : _) (E : _) (G : _) (D : _) → Determines (DueText.Learnt T L C F E G D)
+due_text_only T L C F E G D κs a r q s t = only
+
 pub due_or_only : (T : _) (L : _) (C : _) (G : _) (D : _) → Determines (DueOr.Learnt T L C G D)
 due_or_only T L C G D κs a r q s t = only

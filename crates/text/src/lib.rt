@@ -4,10 +4,9 @@
 ghost use Rattle.std.specs.Prelude.{◌≡◌, drop};
 ghost use Rattle.meaning.specs.Text.{begins};
 ghost use Rattle.meaning.specs.Reading.{due};
-ghost use Rattle.reply.specs.Faults.{number_of};
-ghost use Rattle.text.specs.Pieces.{as_due, as_length};
+ghost use Rattle.text.specs.Pieces.{as_due, as_length_by};
 
-use reply::Fault;
+use reply::{Fault, Told};
 
 // A piece of a paper that was read: what it says, and how many bytes it took.
 #[derive(Clone, Copy)]
@@ -44,8 +43,9 @@ pub fn due_or<E: Copy>(s: &[u8], k: &[u8], ended: E, other: E) -> Result<usize, 
 }
 
 // The fixed text `k` that is due at the start of `s`; where another stands, the fault `n`.
-pub fn due_text(s: &[u8], k: &[u8], n: Fault) -> Result<usize, Fault>
-    ensures { result ≡ as_length s.now (due (number_of n) k.now 0 s.now) }
+#[tactic(auto, using(crate::proofs::Laws::due_told))]
+pub fn due_text<R: Told + Copy>(s: &[u8], k: &[u8], n: R) -> Result<usize, R>
+    ensures { result ≡ as_length_by R.with_number s.now (due (R.number n) k.now 0 s.now) }
 {
-    due_or(s, k, Fault::Line, n)
+    due_or(s, k, R::from_fault(Fault::Line), n)
 }

@@ -4,4 +4,4 @@ use Rattle.cond_item.proofs.Steps.{closes}
 use Rattle.cond_item.proofs.closed.Goals as goal
 
 pub returns : goal.returns
-returns c = let g = c.in_ok-q.was in let h = c.in_ok-close.was in search (rules, closes)
+returns g c = let q = c.in_ok-q.was in let h = c.in_ok-close.was in search (rules, closes)

@@ -1,19 +1,6 @@
-use mathlib.Core.Path.{◌≡◌}
-use borrow.Author.Rules.{rules}
-use Rattle.std.specs.Prelude.{None}
-use Rattle.sheet_fields.proofs.Fields.{fielding, fields_over}
+use Rattle.theory.specs.Reading.BuiltPapers.{fields_built}
+use Rattle.sheet_section.proofs.Sections.{read_told}
 use Rattle.sheet_fields.proofs.read_fields.Goals as goal
 
-pub lines-init : goal.lines-init
-lines-init c = search (rules, fielding, c.in_ok-above.was)
-
-pub returns-in-Err : goal.returns-in-Err
-returns-in-Err c = search (rules, fielding)
-
-pub returns-in-Ok-None : goal.returns-in-Ok-None
-returns-in-Ok-None c =
-    let none : c.in-Ok-None.field-0 ≡ None = rw c.in-Ok-None.is at c.in-Ok-None.field-0-is in
-    fields_over _ _ _ c.lines.invariant _ _ c.rest.ensures c.field_line-row.ensures _ c.in-Ok-None.is none
-
-pub lines-preserved : goal.lines-preserved
-lines-preserved c = search (rules, fielding)
+pub returns-in-Ok : goal.returns-in-Ok
+returns-in-Ok g c = read_told fields_built _ _ _ _ _ _ c.in-Ok.is _ c.fields_behind.ensures _ c.as_told.ensures

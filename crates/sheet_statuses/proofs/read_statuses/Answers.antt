@@ -5,7 +5,7 @@ use Rattle.sheet_statuses.proofs.Statuses.{statusing, statuses_over, statuses_by
 use Rattle.sheet_statuses.proofs.read_statuses.Goals as goal
 
 pub lines-init : goal.lines-init
-lines-init c = search (rules, statusing, c.in_ok-above.was)
+lines-init c = search (rules, statusing)
 
 pub returns-in-Err : goal.returns-in-Err
 returns-in-Err c = search (rules, statusing)

@@ -2,7 +2,7 @@
 use Prim.Native.Nat.{◌-◌}
 use Rattle.meaning.specs.Limits.{field_limit}
 use Rattle.sheet_fields.proofs.Fields.{Fields}
-use Rattle.sheet_fields.proofs.read_fields.Given as goal
+use Rattle.sheet_fields.proofs.fields_behind.Given as goal
 
 abbrev pub invariant-lines : goal.invariant-lines
 invariant-lines l = Fields l.s l.fn.before l.above
