@@ -24,7 +24,7 @@ use Rattle.theory.specs.Reading.Piece.{piece_took, piece_refuses}
 use Rattle.theory.specs.Reading.Sections.{section_over, section_full, section_begun}
 use Rattle.reply.specs.declared.Fault.{Fault}
 use Rattle.reply.specs.declared.Wrong.{Wrong}
-use Rattle.reply.specs.Faults.{fault_of}
+use Rattle.reply.specs.Faults.{fault_of, wrong_again}
 use Rattle.reply.proofs.Faults.{number_again}
 use Rattle.text.specs.declared.Taken.{Taken}
 use Rattle.text.specs.Pieces.{as_taken}
@@ -36,7 +36,7 @@ use Rattle.name.proofs.Tables.{again_more}
 use Rattle.sheet_tables.specs.Heads.{as_heads, heads_of}
 use Rattle.sheet_tables.proofs.Tables.{heads_again}
 use Rattle.sheet_section.specs.declared.Above.{Above}
-use Rattle.sheet_section.specs.Answers.{as_above_by, as_above, as_told, keyed, as_row, so_far_by}
+use Rattle.sheet_section.specs.Answers.{as_above_by, as_above, as_told, keyed, as_row, so_far_by, so_far}
 use Rattle.sheet_section.specs.Held.{Plain, Reached}
 use Rattle.sheet_section.proofs.Rows.{Few, few_rows, plain_well, names_stored}
 
@@ -47,6 +47,11 @@ pub read_got : {x : Got M.Heads} {s : List ℕ} {hd : M.Heads} (a : Above) → a
 read_got {s = s} a is left =
     let back : length s - (length s - a.at) ≡ a.at = omega (arith, left.within) in
     rw (left.is, ← is, length-drop a.at s, back)
+
+-- a refusal of what was read before is handed on
+pub read_handed : (s : List ℕ) (before : Result Above Wrong) (f : M.Heads → Reader M.Heads) (w : Wrong) → before ≡ Err w
+    → Err w ≡ as_above s (after (so_far s before) f)
+read_handed s before f w e = rw e (ap (λ (w : Wrong). Err w) (sym (wrong_again w)))
 
 -- whatever a refusal is told by: the answer r of a section behind what was read before
 pub read_told : {W : Type 0} {f : M.Heads → Reader M.Heads} (built : (hd : M.Heads) → Built (f hd)) (of : ℕ → ℕ → W) (number line : W → ℕ) (s : List ℕ)
